@@ -1,0 +1,171 @@
+-- The laws of specs/Wire.antt that readers and writers cite: parts, big-endian numbers, and what a written buffer holds.
+use Prim.Native.Nat.{ℕ, zero, suc, _+_, _-_, _*_, _/_, _%_, _^_, _≤_, _<_}
+use mathlib.Core.Path.{_≡_, refl, sym, ap, _∙_, subst}
+use mathlib.Core.Logic.{_⊎_, inl, inr, ⊎-elim}
+use mathlib.Core.List.{List, [], _∷_, _++_, append-assoc, append-nil}
+use mathlib.Core.Bool.{Bool, true, false, _&&_}
+use native.Mathlib.Omega.{arith, pow-step}
+use native.Mathlib.Numerals.{add-one}
+use native.Mathlib.Nat.{zero-add, add-zero, add-suc, add-assoc, mul-assoc, pow-suc}
+use lib.ListN.{length, getD, take, drop, set, replicate, length-set, length-append, length-take, length-drop, List·getD-eq-default, List·getD-append}
+use lib.Seq.{getD-drop, getD-take, getD-append-add, getD-set-same, getD-set-other, set-out, sets, sets-eq, length-sets, take-at, drop-at, take-set-le, drop-set-lt, length-take-le}
+use lib.Dec.{eqb}
+use borrow.Author.Tests.{eqb-true, eq-eqb}
+use Rattle.wire.specs.Wire.{numberAt, bytesOf, allZero, equal, paste}
+use Rattle.wire.proofs.Tests.{clash, both}
+
+-- ---- numbers
+
+-- bytes that agree spell the same number: all that follows about numbers rests on this
+pub number-agree : (n : ℕ) (s t : List ℕ) (i j : ℕ) → ((k : ℕ) → k < n → getD s (i + k) 0 ≡ getD t (j + k) 0) → numberAt n s i ≡ numberAt n t j
+unfolding numberAt
+number-agree zero s t i j h = refl
+number-agree (suc n) s t i j h = rw (number-agree n s t i j (λ k l. h k (omega arith)), h n (omega arith))
+
+pub number-past : (n : ℕ) (s : List ℕ) (i : ℕ) → length s ≤ i → numberAt n s i ≡ 0
+unfolding numberAt
+number-past zero s i h = refl
+number-past (suc n) s i h =
+    let g : length s ≤ i + n = omega arith in
+    rw (number-past n s i h, List·getD-eq-default s 0 g)
+
+-- in a part, and beside one
+pub number-drop : (n m : ℕ) (s : List ℕ) (i : ℕ) → numberAt n (drop m s) i ≡ numberAt n s (m + i)
+number-drop n m s i = number-agree n (drop m s) s i (m + i) (λ k l. getD-drop m s (i + k) 0 ∙ ap (λ (x : ℕ). getD s x 0) (omega arith))
+
+pub number-take : (n m : ℕ) (s : List ℕ) (i : ℕ) → i + n ≤ m → numberAt n (take m s) i ≡ numberAt n s i
+number-take n m s i h = number-agree n (take m s) s i i (λ k l. getD-take m s (i + k) 0 (omega arith))
+
+pub number-append : (n : ℕ) (s t : List ℕ) (i : ℕ) → i + n ≤ length s → numberAt n (s ++ t) i ≡ numberAt n s i
+number-append n s t i h = number-agree n (s ++ t) s i i (λ k l. List·getD-append s t 0 (i + k) (omega arith))
+
+pub number-append-add : (n : ℕ) (s t : List ℕ) (i : ℕ) → numberAt n (s ++ t) (length s + i) ≡ numberAt n t i
+number-append-add n s t i = number-agree n (s ++ t) t (length s + i) i (λ k l. ap (λ (x : ℕ). getD (s ++ t) x 0) (add-assoc (length s) i k) ∙ getD-append-add s t (i + k) 0)
+
+-- a number is its first bytes, moved up, and its last
+pub number-join : (m n : ℕ) (s : List ℕ) (i : ℕ) → numberAt (m + n) s i ≡ numberAt m s i * 256 ^ n + numberAt n s (i + m)
+unfolding numberAt
+number-join m zero s i = rw add-zero (omega arith)
+number-join m (suc n) s i =
+    let up : numberAt m s i * 256 ^ suc n ≡ numberAt m s i * 256 ^ n * 256 = rw (pow-suc 256 n) (sym (mul-assoc (numberAt m s i) (256 ^ n) 256)) in
+    rw (add-suc, number-join m n s i, up, ← add-assoc i m n) (omega arith)
+
+pub number-one : (s : List ℕ) (i : ℕ) → numberAt 1 s i ≡ getD s i 0
+unfolding numberAt
+number-one s i = rw add-zero (omega arith)
+
+-- the bytes that spell a 16- and a 32-bit number
+pub two-bytes : (x : ℕ) → bytesOf 2 x ≡ x / 256 % 256 ∷ x % 256 ∷ []
+unfolding bytesOf
+two-bytes x = refl
+
+pub four-bytes : (x : ℕ) → bytesOf 4 x ≡ x / 16777216 % 256 ∷ x / 65536 % 256 ∷ x / 256 % 256 ∷ x % 256 ∷ []
+unfolding bytesOf
+four-bytes x =
+    let second : x / 256 / 256 ≡ x / 65536 = omega arith in
+    let first : x / 256 / 256 / 256 ≡ x / 16777216 = omega arith in
+    rw (first, second)
+
+pub length-bytesOf : (n x : ℕ) → length (bytesOf n x) ≡ n
+unfolding bytesOf
+length-bytesOf zero x = refl
+length-bytesOf (suc n) x = length-append (bytesOf n (x / 256)) (x % 256 ∷ []) ∙ omega (arith, length-bytesOf n (x / 256))
+
+-- n bytes hold every number below 256 to the n
+pub number-bytesOf : (n x : ℕ) → x < 256 ^ n → numberAt n (bytesOf n x) 0 ≡ x
+unfolding numberAt bytesOf
+number-bytesOf zero x h = omega arith
+number-bytesOf (suc n) x h =
+    let small : x / 256 < 256 ^ n = omega (arith, pow-step 256 n) in
+    let high : numberAt n (bytesOf n (x / 256) ++ (x % 256 ∷ [])) 0 ≡ x / 256 =
+    number-append n (bytesOf n (x / 256)) (x % 256 ∷ []) 0 (omega (arith, length-bytesOf n (x / 256))) ∙ number-bytesOf n (x / 256) small in
+    let low : getD (bytesOf n (x / 256) ++ (x % 256 ∷ [])) (0 + n) 0 ≡ x % 256 =
+    ap (λ (k : ℕ). getD (bytesOf n (x / 256) ++ (x % 256 ∷ [])) k 0) (omega (arith, length-bytesOf n (x / 256))) ∙ getD-append-add (bytesOf n (x / 256)) (x % 256 ∷ []) 0 0 in
+    rw (high, low) (omega arith)
+
+-- ---- comparisons
+
+pub equal-same : (s : List ℕ) → equal s s ≡ true
+unfolding equal
+equal-same [] = refl
+equal-same (a ∷ s) = rw (eq-eqb a a refl) (equal-same s)
+
+pub equal-true : (s t : List ℕ) → equal s t ≡ true → s ≡ t
+unfolding equal
+equal-true [] [] h = refl
+equal-true [] (b ∷ t) h = clash h
+equal-true (a ∷ s) [] h = clash h
+equal-true (a ∷ s) (b ∷ t) h =
+    let h2 = both (eqb a b) (equal s t) h in
+    rw (eqb-true a b (h2 .0), equal-true s t (h2 .1))
+
+pub allZero-true : (s : List ℕ) → allZero s ≡ true → s ≡ replicate (length s) 0
+unfolding allZero
+allZero-true [] h = refl
+allZero-true (b ∷ s) h =
+    let h2 = both (eqb b 0) (allZero s) h in
+    rw (eqb-true b 0 (h2 .0)) (ap (λ (l : List ℕ). 0 ∷ l) (allZero-true s (h2 .1)))
+
+-- ---- a written buffer
+
+pub length-paste : (l : List ℕ) (i : ℕ) (xs : List ℕ) → length (paste l i xs) ≡ length l
+unfolding paste
+length-paste l i [] = refl
+length-paste l i (x ∷ xs) = length-paste (set l i x) (i + 1) xs ∙ length-set l i x
+
+pub paste-past : (l : List ℕ) (i : ℕ) (xs : List ℕ) → length l ≤ i → paste l i xs ≡ l
+unfolding paste
+paste-past l i [] h = refl
+paste-past l i (x ∷ xs) h = rw set-out (paste-past l (i + 1) xs (omega arith))
+
+-- a run written behind another is both written as one
+pub paste-append : (l : List ℕ) (i : ℕ) (xs ys : List ℕ) → paste (paste l i xs) (i + length xs) ys ≡ paste l i (xs ++ ys)
+unfolding paste
+paste-append l i [] ys = ap (λ (k : ℕ). paste l k ys) (omega arith)
+paste-append l i (x ∷ xs) ys = ap (λ (k : ℕ). paste (paste (set l i x) (i + 1) xs) k ys) (omega arith) ∙ paste-append (set l i x) (i + 1) xs ys
+
+-- a run that fits, as the three parts of the buffer
+paste-sets : (l : List ℕ) (i : ℕ) (xs : List ℕ) → paste l i xs ≡ sets l i xs
+unfolding paste
+paste-sets l i [] = refl
+paste-sets l i (x ∷ xs) = paste-sets (set l i x) (i + 1) xs ∙ ap (λ (k : ℕ). sets (set l i x) k xs) (add-one i)
+
+pub paste-fits : (l : List ℕ) (i : ℕ) (xs : List ℕ) → i + length xs ≤ length l → paste l i xs ≡ take i l ++ (xs ++ drop (i + length xs) l)
+paste-fits l i xs h = paste-sets l i xs ∙ sets-eq xs l i h ∙ append-assoc (take i l) xs (drop (i + length xs) l)
+
+pub take-paste : (n : ℕ) (l : List ℕ) (i : ℕ) (xs : List ℕ) → n ≤ i → take n (paste l i xs) ≡ take n l
+unfolding paste
+take-paste n l i [] h = refl
+take-paste n l i (x ∷ xs) h = take-paste n (set l i x) (i + 1) xs (omega arith) ∙ take-set-le n l i x h
+
+pub drop-paste : (n : ℕ) (l : List ℕ) (i : ℕ) (xs : List ℕ) → i + length xs ≤ n → drop n (paste l i xs) ≡ drop n l
+unfolding paste
+drop-paste n l i [] h = refl
+drop-paste n l i (x ∷ xs) h = drop-paste n (set l i x) (i + 1) xs (omega arith) ∙ drop-set-lt n l i x (omega arith)
+
+-- what was written stands there, and all else as it was
+pub paste-inside : (l : List ℕ) (i : ℕ) (xs : List ℕ) → i + length xs ≤ length l → take (length xs) (drop i (paste l i xs)) ≡ xs
+paste-inside l i xs h =
+    let at : length (take i l) ≡ i = length-take-le i l (omega arith) in
+    rw (paste-fits l i xs h, drop-at (take i l) (xs ++ drop (i + length xs) l) i at) (take-at xs (drop (i + length xs) l) (length xs) refl)
+
+pub getD-paste : (l : List ℕ) (i : ℕ) (xs : List ℕ) (k : ℕ) → i + length xs ≤ length l → k < length xs → getD (paste l i xs) (i + k) 0 ≡ getD xs k 0
+getD-paste l i xs k h g =
+    sym (getD-drop i (paste l i xs) k 0) ∙ sym (getD-take (length xs) (drop i (paste l i xs)) k 0 g) ∙ ap (λ (s : List ℕ). getD s k 0) (paste-inside l i xs h)
+
+pub getD-paste-other : (l : List ℕ) (i : ℕ) (xs : List ℕ) (k : ℕ) → (k < i) ⊎ (i + length xs ≤ k) → getD (paste l i xs) k 0 ≡ getD l k 0
+unfolding paste
+getD-paste-other l i [] k h = refl
+getD-paste-other l i (x ∷ xs) k h =
+    getD-paste-other (set l i x) (i + 1) xs k (⊎-elim (λ w. inl (omega arith)) (λ w. inr (omega arith)) h)
+    ∙ getD-set-other l i k x 0 (⊎-elim (λ w e. omega arith) (λ w e. omega arith) h)
+
+-- a written number reads back, and one beside what is written stays
+pub number-written : (n x : ℕ) (l : List ℕ) (i : ℕ) → x < 256 ^ n → i + n ≤ length l → numberAt n (paste l i (bytesOf n x)) i ≡ x
+number-written n x l i h g =
+    number-agree n (paste l i (bytesOf n x)) (bytesOf n x) i 0 (λ k b. rw zero-add (getD-paste l i (bytesOf n x) k (omega (arith, length-bytesOf n x)) (omega (arith, length-bytesOf n x))))
+    ∙ number-bytesOf n x h
+
+pub number-kept : (n : ℕ) (l : List ℕ) (i : ℕ) (xs : List ℕ) (j : ℕ) → (j + n ≤ i) ⊎ (i + length xs ≤ j) → numberAt n (paste l i xs) j ≡ numberAt n l j
+number-kept n l i xs j h =
+    number-agree n (paste l i xs) l j j (λ k b. getD-paste-other l i xs (j + k) (⊎-elim (λ w. inl (omega arith)) (λ w. inr (omega arith)) h))

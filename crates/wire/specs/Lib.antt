@@ -1,0 +1,3 @@
+pub mod Wire
+pub mod Tests
+pub mod Answer
