@@ -1,0 +1,37 @@
+-- What arrives at port 4500, document 01, "Port 4500".
+use Prim.Native.Nat.{ℕ, _-_}
+use mathlib.Core.List.{List, [], _∷_}
+use lib.ListN.{length, take, drop}
+use lib.Dec.{ltb}
+use Rattle.wire.specs.Wire.{equal}
+use Rattle.wire.specs.Tests.{if_then_else_}
+use Rattle.wire.specs.Answer.{Answer}
+use Rattle.port4500.specs.declared.Datagram.{Datagram}
+use Rattle.port4500.specs.declared.Datagram.the-variants.{Keepalive, KeyExchange, Esp, Refused}
+
+-- "four zero bytes"
+abbrev pub marker : List ℕ
+marker = 0 ∷ 0 ∷ 0 ∷ 0 ∷ []
+
+-- "A single byte 255 is a keepalive. Otherwise fewer than 4 bytes: 16. A message behind four zero bytes is a key exchange; the rest is
+-- handed on. Anything else is an ESP packet, whole."
+unfoldable pub datagram : List ℕ → Datagram
+datagram s =
+    if equal s (255 ∷ []) then Keepalive
+    else if ltb (length s) 4 then Refused 16
+    else if equal (take 4 s) marker then KeyExchange 4 (length s - 4)
+    else Esp (length s)
+
+-- the part that is handed on: the rest of a key exchange, an ESP packet whole, nothing else
+unfoldable pub handedOn : Datagram → List ℕ → List ℕ
+handedOn Keepalive s = []
+handedOn (KeyExchange start length) s = drop start s
+handedOn (Esp length) s = s
+handedOn (Refused number) s = []
+
+-- the paper's number and values for each case
+unfoldable pub answer : Datagram → Answer
+answer Keepalive = record { number = 0; values = 1 ∷ [] }
+answer (KeyExchange start length) = record { number = 0; values = 2 ∷ start ∷ length ∷ [] }
+answer (Esp length) = record { number = 0; values = 3 ∷ length ∷ [] }
+answer (Refused number) = record { number = number; values = [] }
