@@ -1,0 +1,3 @@
+pub mod OneAnswer
+pub mod Marked
+pub mod Port4500

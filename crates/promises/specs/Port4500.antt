@@ -1,0 +1,82 @@
+-- Port 4500: an answer's number and values are its own, and what is handed on lies where the answer says.
+use Prim.Native.Nat.{ℕ, _-_}
+use mathlib.Core.Path.{_≡_, refl, sym, ap, _∙_}
+use mathlib.Core.List.{List, [], _∷_, _++_}
+use mathlib.Core.Bool.{Bool, true, false}
+use lib.ListN.{length, getD, take, drop, take-append-drop, length-drop}
+use lib.Dec.{ltb, eqb}
+use Rattle.wire.specs.Wire.{equal}
+use Rattle.wire.specs.Tests.{if_then_else_}
+use Rattle.wire.specs.Answer.{Answer}
+use Rattle.wire.proofs.Tests.{never}
+use Rattle.wire.proofs.Laws.{equal-true}
+use Rattle.port4500.specs.Port.{marker, datagram, handedOn, answer}
+use Rattle.port4500.specs.declared.Datagram.{Datagram}
+use Rattle.port4500.specs.declared.Datagram.the-variants.{Keepalive, KeyExchange, Esp, Refused}
+
+-- the answer that a number and values stand for
+abbrev meant : Answer → Datagram
+meant a =
+    if eqb (length (a .values)) 0 then Refused (a .number)
+    else if eqb (getD (a .values) 0 0) 1 then Keepalive
+    else if eqb (getD (a .values) 0 0) 2 then KeyExchange (getD (a .values) 1 0) (getD (a .values) 2 0)
+    else Esp (getD (a .values) 1 0)
+
+meant-answer : (x : Datagram) → meant (answer x) ≡ x
+unfolding answer
+meant-answer Keepalive = refl
+meant-answer (KeyExchange start length) = refl
+meant-answer (Esp length) = refl
+meant-answer (Refused number) = refl
+
+-- no two answers have the same number and values
+pub answer-own : (x y : Datagram) → answer x ≡ answer y → x ≡ y
+answer-own x y h = sym (meant-answer x) ∙ ap meant h ∙ meant-answer y
+
+-- what each answer says of the datagram
+data Says (s : List ℕ) : Datagram → Type 0 where
+  keepalive : Says s Keepalive
+  short : Says s (Refused 16)
+  behind : take 4 s ≡ marker → Says s (KeyExchange 4 (length s - 4))
+  esp : Says s (Esp (length s))
+
+says : (s : List ℕ) → Says s (datagram s)
+unfolding datagram
+says s = by-tests (equal s (255 ∷ [])) (ltb (length s) 4) (equal (take 4 s) marker) refl
+  where
+    by-tests : (a b c : Bool) → equal (take 4 s) marker ≡ c →
+        Says s (if a then Keepalive else if b then Refused 16 else if c then KeyExchange 4 (length s - 4) else Esp (length s))
+    by-tests true b c e = keepalive
+    by-tests false true c e = short
+    by-tests false false true e = behind (equal-true (take 4 s) marker e)
+    by-tests false false false e = esp
+
+-- a key exchange is the marker and then what is handed on, which lies where the answer says
+pub record Handed (s : List ℕ) (start n : ℕ) (rest : List ℕ) : Type 0 where
+  pub marked : s ≡ marker ++ rest
+  pub lies : rest ≡ drop start s
+  pub long : length rest ≡ n
+
+pub key-exchange-handed : (s : List ℕ) (start n : ℕ) → datagram s ≡ KeyExchange start n → Handed s start n (handedOn (datagram s) s)
+unfolding handedOn
+key-exchange-handed s start n = of (says s)
+  where
+    of : {d : Datagram} → Says s d → d ≡ KeyExchange start n → Handed s start n (handedOn d s)
+    of keepalive h = never (cc)
+    of short h = never (cc)
+    of (behind m) h =
+        let at : 4 ≡ start = cc in
+        let size : length s - 4 ≡ n = cc in
+        record { marked = sym (ap (λ (l : List ℕ). l ++ drop 4 s) (sym m) ∙ take-append-drop 4 s); lies = ap (λ (k : ℕ). drop k s) at; long = length-drop 4 s ∙ size }
+    of esp h = never (cc)
+
+-- an ESP packet is handed on whole
+pub esp-handed : (s : List ℕ) (n : ℕ) → datagram s ≡ Esp n → (handedOn (datagram s) s ≡ s) × (length s ≡ n)
+unfolding handedOn
+esp-handed s n = of (says s)
+  where
+    of : {d : Datagram} → Says s d → d ≡ Esp n → (handedOn d s ≡ s) × (length s ≡ n)
+    of keepalive h = never (cc)
+    of short h = never (cc)
+    of (behind m) h = never (cc)
+    of esp h = (refl, cc)
