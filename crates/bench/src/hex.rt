@@ -1,0 +1,52 @@
+// Bytes in hex: two digits of either case for each byte, or `-` for no bytes.
+use wire::byte;
+use wire::equal;
+ghost use mathlib.Core.Path.{_≡_};
+ghost use Prim.Native.Nat.{_-_, _≤_, _<_};
+
+pub(crate) enum Decoded {
+    // The place behind the last byte.
+    To(usize),
+    Wrong,
+}
+
+// The value of a digit; 16 for any other byte.
+fn value(digit: u8) -> u8
+    ensures decimal { λ r. ⌜ (48 ≤ digit → digit ≤ 57 → r ≡ digit - 48) ⌝ }
+    ensures lower { λ r. ⌜ (97 ≤ digit → digit ≤ 102 → r ≡ digit - 87) ⌝ }
+    ensures upper { λ r. ⌜ (65 ≤ digit → digit ≤ 70 → r ≡ digit - 55) ⌝ }
+    ensures below { λ r. ⌜ (digit < 48 → r ≡ 16) ⌝ }
+    ensures between { λ r. ⌜ (57 < digit → digit < 65 → r ≡ 16) × (70 < digit → digit < 97 → r ≡ 16) ⌝ }
+    ensures above { λ r. ⌜ (102 < digit → r ≡ 16) ⌝ }
+{
+    match digit {
+        b'0'..=b'9' => digit - b'0',
+        b'a'..=b'f' => digit - b'a' + 10,
+        b'A'..=b'F' => digit - b'A' + 10,
+        _ => 16,
+    }
+}
+
+// Puts the bytes of a word into the buffer from a place on. A word that is no bytes, or does not fit, is wrong, and may
+// have been put in part.
+pub(crate) fn decode(word: &[u8], bytes: &mut [u8], at: usize) -> Decoded {
+    if equal(word, b"-") {
+        return Decoded::To(at);
+    }
+    if word.len() == 0 {
+        return Decoded::Wrong;
+    }
+    let mut i = 0;
+    let mut to = at;
+    while i < word.len() {
+        let high = value(byte(word, i));
+        let low = value(byte(word, i + 1));
+        if bytes.len() <= to || high == 16 || low == 16 {
+            return Decoded::Wrong;
+        }
+        bytes[to] = (high << 4) | low;
+        to += 1;
+        i += 2;
+    }
+    Decoded::To(to)
+}

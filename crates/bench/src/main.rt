@@ -1,0 +1,118 @@
+// Reads lines from standard input and writes one line of answer to standard output for each, in order. What the lines are
+// stands in verbs.rt. Input of any length goes through four buffers that main makes once and lends to everything below.
+mod element;
+mod hex;
+mod port;
+mod say;
+mod verbs;
+mod words;
+
+use libc::STDIN_FILENO;
+use libc::STDOUT_FILENO;
+use say::append;
+use wire::after;
+use wire::front;
+
+// What goes from line to line: how far the line and the output are filled, and whether to read on.
+struct State {
+    line: usize,
+    said: usize,
+    going: bool,
+}
+
+fn main() {
+    let mut input = io::large_buffer();
+    // One byte more than the longest line: a longer one fills it, and is known by that.
+    let mut line = io::large_buffer();
+    // Room for the bytes of a whole line of hex.
+    let mut bytes = [0u8; 32768];
+    let mut out = io::large_buffer();
+    run(&mut input, &mut line, &mut bytes, &mut out);
+}
+
+// Answers all of the input. What is left of a line when the input ends is the last line.
+fn run(input: &mut [u8], line: &mut [u8], bytes: &mut [u8], out: &mut [u8]) {
+    let mut state = State {
+        line: 0,
+        said: 0,
+        going: true,
+    };
+    // A proved loop has to end: no run uses this number up.
+    let mut turns = u64::MAX;
+    while turns > 0 && state.going {
+        state = read_once(input, line, bytes, out, state);
+        turns -= 1;
+    }
+    let last = end_line(line, bytes, out, state);
+    flush(out, last);
+}
+
+// Reads once and answers what came. A read that fails counts as the end of the input.
+fn read_once(
+    input: &mut [u8],
+    line: &mut [u8],
+    bytes: &mut [u8],
+    out: &mut [u8],
+    mut state: State,
+) -> State {
+    let got = libc::read(STDIN_FILENO, input);
+    let n = io::count(got, input);
+    if n == 0 {
+        state.going = false;
+        return state;
+    }
+    let state = take(front(input, n), line, bytes, out, state);
+    flush(out, state)
+}
+
+// Takes a part of the input, line by line.
+fn take(part: &[u8], line: &mut [u8], bytes: &mut [u8], out: &mut [u8], mut state: State) -> State {
+    let mut at = 0;
+    while at < part.len() && state.going {
+        let end = words::find(part, at, b'\n');
+        let piece = after(front(part, end), at);
+        state = add(piece, end < part.len(), line, bytes, out, state);
+        at = end + 1;
+    }
+    state
+}
+
+// Adds a piece to the line that is kept, and answers the line where the piece ends it.
+fn add(
+    piece: &[u8],
+    ends: bool,
+    line: &mut [u8],
+    bytes: &mut [u8],
+    out: &mut [u8],
+    mut state: State,
+) -> State {
+    state.line = append(line, state.line, piece);
+    if ends {
+        end_line(line, bytes, out, state)
+    } else {
+        state
+    }
+}
+
+// Answers the line that is kept and begins the next one. The output is written when it is more than half full, so half of
+// it is room for an answer.
+fn end_line(line: &[u8], bytes: &mut [u8], out: &mut [u8], mut state: State) -> State {
+    state.said = verbs::answer(front(line, state.line), bytes, out, state.said);
+    state.line = 0;
+    if out.len() / 2 < state.said {
+        flush(out, state)
+    } else {
+        state
+    }
+}
+
+// Writes out what was said. Where that fails the program ends, and a line that was begun is dropped.
+fn flush(out: &[u8], mut state: State) -> State {
+    let written = io::write_all(STDOUT_FILENO, front(out, state.said));
+    state.said = 0;
+    if !written {
+        state.line = 0;
+        state.going = false;
+    }
+    state
+}

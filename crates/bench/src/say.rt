@@ -1,0 +1,40 @@
+// Filling a buffer: each function puts something at a place and gives back the place behind it. The line end of an answer
+// is put in verbs.rt, once for all.
+use wire::put_bytes;
+ghost use mathlib.Core.Path.{_≡_};
+ghost use Prim.Native.Nat.{_+_, min};
+ghost use lib.ListN.{length};
+ghost use Rattle.wire.specs.Wire.{paste};
+
+// Puts bytes. Those that do not fit are left out, and the buffer is full.
+pub(crate) fn append(buffer: &mut [u8], at: usize, text: &[u8]) -> usize
+    ensures { λ _. ⌜ now (buffer .exit) ≡ paste (now (buffer .entry)) at (now (text .entry)) ⌝ }
+    ensures { λ r. ⌜ r ≡ min (at + length (now (text .entry))) (length (now (buffer .exit))) ⌝ }
+{
+    put_bytes(buffer, at, text);
+    let room = buffer.len();
+    if room <= at {
+        room
+    } else if room - at <= text.len() {
+        room
+    } else {
+        at + text.len()
+    }
+}
+
+// Puts a space and a number in decimal.
+pub(crate) fn number(out: &mut [u8], said: usize, n: u64) -> usize {
+    let mut digits = [0u8; 20];
+    let count = io::decimal(n, &mut digits);
+    let said = append(out, said, b" ");
+    append(out, said, &digits[..count])
+}
+
+pub(crate) fn refused(out: &mut [u8], said: usize, n: u16) -> usize {
+    let said = append(out, said, b"refused");
+    number(out, said, n as u64)
+}
+
+pub(crate) fn bad_line(out: &mut [u8], said: usize) -> usize {
+    append(out, said, b"bad line")
+}
