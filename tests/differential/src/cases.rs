@@ -1,0 +1,75 @@
+//! A case: lines for both programs, and what is known about their answers.
+
+pub struct Case {
+    /// What it tries, in the words in which a difference is shown.
+    pub kind: &'static str,
+    /// Whole lines; only in a case that runs alone may the last one lack its line end.
+    pub input: Vec<u8>,
+    /// One for each answer owed: the right one, or `None` where only agreement is asked.
+    pub answers: Vec<Option<String>>,
+    /// Whether it gets programs of its own, because the end of input matters.
+    pub alone: bool,
+}
+
+/// Where the maker of one kind of case puts its cases.
+pub struct Cases {
+    pub kind: &'static str,
+    pub made: Vec<Case>,
+}
+
+impl Cases {
+    /// A line `der BYTES`, with its answer where it is known.
+    pub fn der(&mut self, bytes: &[u8], answer: Option<&'static str>) {
+        self.line("der", bytes, answer.map(str::to_string));
+    }
+
+    /// A line `port BYTES`, with its answer.
+    pub fn port(&mut self, bytes: &[u8], answer: String) {
+        self.line("port", bytes, Some(answer));
+    }
+
+    fn line(&mut self, verb: &str, bytes: &[u8], answer: Option<String>) {
+        let line = format!("{verb} {}\n", word(bytes));
+        self.add(line.into_bytes(), vec![answer], false);
+    }
+
+    /// Whole lines and the answers to them.
+    pub fn lines(&mut self, input: Vec<u8>, answers: &[String]) {
+        self.add(input, answers.iter().cloned().map(Some).collect(), false);
+    }
+
+    /// All that a pair of programs gets to read, and the answers to it.
+    pub fn alone(&mut self, input: Vec<u8>, answers: &[String]) {
+        self.add(input, answers.iter().cloned().map(Some).collect(), true);
+    }
+
+    fn add(&mut self, input: Vec<u8>, answers: Vec<Option<String>>, alone: bool) {
+        self.made.push(Case { kind: self.kind, input, answers, alone });
+    }
+}
+
+/// Bytes as a word of a line.
+pub fn word(bytes: &[u8]) -> String {
+    if bytes.is_empty() {
+        return "-".to_string();
+    }
+    const DIGITS: &[u8; 16] = b"0123456789abcdef";
+    let mut hex = String::with_capacity(2 * bytes.len());
+    for byte in bytes {
+        hex.push(DIGITS[usize::from(byte >> 4)].into());
+        hex.push(DIGITS[usize::from(byte & 15)].into());
+    }
+    hex
+}
+
+/// Every string of exactly `length` bytes over the alphabet.
+pub fn strings(alphabet: &[u8], length: usize) -> Vec<Vec<u8>> {
+    let mut strings = vec![Vec::new()];
+    for _ in 0..length {
+        strings = strings
+            .iter()
+            .flat_map(|string| alphabet.iter().map(move |&byte| [string.as_slice(), &[byte]].concat()))
+            .collect();
+    }
+    strings
+}

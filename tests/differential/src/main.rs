@@ -1,0 +1,229 @@
+//! Feeds the same lines to `bench` and to the second program and compares every answer; see ../README.md.
+
+mod cases;
+mod compare;
+mod groups;
+mod programs;
+mod random;
+mod tree;
+
+use cases::Case;
+use compare::{compare, Comparison, Difference};
+use groups::Group;
+use programs::Programs;
+use std::time::Instant;
+
+const DEFAULT_SEED: u64 = 36_968;
+/// So many differences of a group are shown; one mistake can bring thousands.
+const DIFFERENCES_SHOWN: usize = 5;
+/// A longer line is shortened in its middle, down to so many characters at each end.
+const ENDS_SHOWN: usize = 100;
+
+/// What the command line asks for.
+struct Request {
+    programs: Programs,
+    seed: u64,
+    group: Option<String>,
+    case: Option<usize>,
+}
+
+fn request(mut arguments: impl Iterator<Item = String>) -> Option<Request> {
+    let bench = arguments.next()?.into();
+    let second = arguments.next()?.into();
+    let mut request = Request { programs: Programs::new(bench, second), seed: DEFAULT_SEED, group: None, case: None };
+    while let Some(option) = arguments.next() {
+        let value = arguments.next()?;
+        match option.as_str() {
+            "--seed" => request.seed = value.parse().ok()?,
+            "--only" => {
+                let (group, case) = match value.split_once(':') {
+                    Some((group, case)) => (group, Some(case.parse().ok()?)),
+                    None => (value.as_str(), None),
+                };
+                groups::ALL.iter().find(|known| known.name == group)?;
+                request.group = Some(group.to_string());
+                request.case = case;
+            }
+            _ => return None,
+        }
+    }
+    Some(request)
+}
+
+fn usage() -> ! {
+    let names: Vec<_> = groups::ALL.iter().map(|group| group.name).collect();
+    eprintln!("usage: differential BENCH SECOND [--seed N] [--only GROUP | --only GROUP:CASE]");
+    eprintln!("groups: {}", names.join(", "));
+    std::process::exit(2)
+}
+
+#[derive(Default)]
+struct Tally {
+    passed: usize,
+    failed: usize,
+}
+
+impl Tally {
+    /// Counts one test, which passed if there are no faults to show.
+    fn count<Fault>(&mut self, test: &str, faults: &[Fault], show: impl Fn(&Fault) -> String) {
+        if faults.is_empty() {
+            self.passed += 1;
+            return;
+        }
+        self.failed += 1;
+        println!("FAILED {test}");
+        for fault in faults.iter().take(DIFFERENCES_SHOWN) {
+            println!("  {}", show(fault));
+        }
+        if faults.len() > DIFFERENCES_SHOWN {
+            println!("  and {} more", faults.len() - DIFFERENCES_SHOWN);
+        }
+    }
+}
+
+fn main() {
+    let Some(request) = request(std::env::args().skip(1)) else { usage() };
+    let mut tally = Tally::default();
+    for group in groups::ALL {
+        if request.group.as_deref().is_some_and(|name| name != group.name) {
+            continue;
+        }
+        match request.case {
+            Some(number) => run_case(&request, group, number, &mut tally),
+            None => run_group(&request, group, &mut tally),
+        }
+    }
+    println!("{} passed, {} failed", tally.passed, tally.failed);
+    std::process::exit((tally.failed > 0).into());
+}
+
+fn run_group(request: &Request, group: &Group, tally: &mut Tally) {
+    let started = Instant::now();
+    let cases = group.cases(request.seed);
+    let comparison = compare(&request.programs, &cases);
+    let answers = count_answers(group, &comparison.agreed);
+
+    let counts: Vec<_> = answers.iter().map(|(answer, count)| format!("{count} {answer}")).collect();
+    println!(
+        "{}: {} cases of {} kinds in {:.1} s; {}",
+        group.name,
+        cases.len(),
+        group.kinds.len(),
+        started.elapsed().as_secs_f64(),
+        counts.join(", ")
+    );
+
+    count_comparison(request, group, &cases, &comparison, tally);
+    count_occurrences(group, &cases, &comparison, &answers, tally);
+}
+
+fn count_occurrences(
+    group: &Group,
+    cases: &[Case],
+    comparison: &Comparison,
+    answers: &[(&str, usize)],
+    tally: &mut Tally,
+) {
+    let name = group.name;
+    let unseen: Vec<_> = answers.iter().filter(|(_, count)| *count == 0).collect();
+    tally.count(&format!("{name}: every kind of answer occurred"), &unseen, |(answer, _)| {
+        format!("`{answer}` never occurred")
+    });
+
+    let foreign = |answer: &&String| !group.answers.iter().any(|kind| is_of_kind(answer, kind));
+    let foreign: Vec<_> = comparison.agreed.iter().filter(foreign).collect();
+    tally.count(&format!("{name}: no other kind of answer occurred"), &foreign, |answer| {
+        format!("`{}`", shortened(answer))
+    });
+
+    let unmade = |kind: &&str| !cases.iter().any(|case| case.kind == *kind);
+    let unmade: Vec<_> = group.kinds.iter().map(|(kind, _)| *kind).filter(unmade).collect();
+    tally.count(&format!("{name}: every kind of case was made"), &unmade, |kind| {
+        format!("no case of the kind \"{kind}\"")
+    });
+}
+
+/// Runs one case by itself and shows it whole.
+fn run_case(request: &Request, group: &Group, number: usize, tally: &mut Tally) {
+    let mut cases = group.cases(request.seed);
+    if number >= cases.len() {
+        println!("{} has the cases 0 to {}", group.name, cases.len() - 1);
+        tally.failed += 1;
+        return;
+    }
+    let cases = [cases.swap_remove(number)];
+    println!("{}", cases[0].input.escape_ascii());
+    let comparison = compare(&request.programs, &cases);
+    println!("agreed: {}", comparison.agreed.join(", "));
+    count_comparison(request, group, &cases, &comparison, tally);
+}
+
+fn count_comparison(request: &Request, group: &Group, cases: &[Case], comparison: &Comparison, tally: &mut Tally) {
+    let name = group.name;
+    tally.count(
+        &format!("{name}: both programs ran to their end and gave as many answers as they owe"),
+        &comparison.failures,
+        String::clone,
+    );
+    let show = |difference: &&Difference| show(request, group, &cases[difference.case], difference);
+    let differences = comparison.differences.iter();
+    let disagreements: Vec<_> = differences.clone().filter(|each| each.programs_disagree()).collect();
+    tally.count(&format!("{name}: both programs give the same answers"), &disagreements, show);
+    let both_wrong: Vec<_> = differences.filter(|each| each.programs_agree_on_a_wrong_answer()).collect();
+    tally.count(&format!("{name}: where they agree, a known answer is the one given"), &both_wrong, show);
+}
+
+fn show(request: &Request, group: &Group, case: &Case, difference: &Difference) -> String {
+    let answer = |answer: &Option<String>| answer.clone().unwrap_or("(no answer)".to_string());
+    let known = difference.known.clone().unwrap_or("(only that both agree)".to_string());
+    let number = request.case.unwrap_or(difference.case);
+    [
+        format!("{}, answer {} of {}", case.kind, difference.answer, case.answers.len()),
+        format!("  input   {}", shortened(&case.input.escape_ascii().to_string())),
+        format!("  bench   {}", shortened(&answer(&difference.bench))),
+        format!("  second  {}", shortened(&answer(&difference.second))),
+        format!("  known   {known}"),
+        format!(
+            "  this case alone and whole: differential {} {} --seed {} --only {}:{number}",
+            request.programs.bench.display(),
+            request.programs.second.display(),
+            request.seed,
+            group.name
+        ),
+    ]
+    .join("\n  ")
+}
+
+fn shortened(line: &str) -> String {
+    if line.len() <= 3 * ENDS_SHOWN {
+        return line.to_string();
+    }
+    let (front, back) = (&line[..ENDS_SHOWN], &line[line.len() - ENDS_SHOWN..]);
+    format!("{front} ... {} characters left out ... {back}", line.len() - 2 * ENDS_SHOWN)
+}
+
+/// How often each kind of answer of the group occurred, in the group's order.
+fn count_answers(group: &Group, answers: &[String]) -> Vec<(&'static str, usize)> {
+    let count = |kind: &str| answers.iter().filter(|answer| is_of_kind(answer, kind)).count();
+    group.answers.iter().map(|&kind| (kind, count(kind))).collect()
+}
+
+/// A kind of answer is the answer itself, or what stands before its numbers.
+fn is_of_kind(answer: &str, kind: &str) -> bool {
+    let numbers =
+        |rest: &str| rest.starts_with(' ') && !rest.contains(|letter: char| !letter.is_ascii_digit() && letter != ' ');
+    answer.strip_prefix(kind).is_some_and(|rest| rest.is_empty() || numbers(rest))
+}
+
+#[cfg(test)]
+mod tests {
+    use super::is_of_kind;
+
+    #[test]
+    fn a_refusal_keeps_its_number_and_other_answers_lose_theirs() {
+        assert!(is_of_kind("key-exchange 4 1", "key-exchange"));
+        assert!(is_of_kind("refused 16", "refused 16"));
+        assert!(!is_of_kind("refused 16", "refused 1"));
+        assert!(!is_of_kind("name (without a line end)", "name"));
+    }
+}

@@ -1,0 +1,113 @@
+//! What the house keeps, checked from the sources: every public function has a contract, a row in docs/CONTRACTS.md and a theorem that
+//! it has one answer; every must-fail edit is in that page; no axiom is declared; the pages name only files that exist; each sample
+//! answers as its page says. `house ROOT BENCH`; the last line is `N passed, M failed`.
+
+mod sources;
+
+use std::fs;
+use std::path::Path;
+use std::process::{Command, ExitCode, Stdio};
+
+use sources::{below, public_functions, PublicFunction};
+
+const PAGES: &[&str] = &["README.md", "docs/ARCHITECTURE.md", "docs/CONTRACTS.md", "docs/DECISIONS.md", "tests/README.md"];
+
+/// Counts the facts, and says which does not hold.
+#[derive(Default)]
+struct Tally {
+    passed: usize,
+    failed: usize,
+}
+
+impl Tally {
+    fn fact(&mut self, holds: bool, otherwise: impl FnOnce() -> String) {
+        if holds {
+            self.passed += 1;
+        } else {
+            self.failed += 1;
+            println!("house: {}", otherwise());
+        }
+    }
+}
+
+fn main() -> ExitCode {
+    let arguments: Vec<String> = std::env::args().collect();
+    let [_, root, bench] = &arguments[..] else {
+        eprintln!("house ROOT BENCH");
+        return ExitCode::from(2);
+    };
+    let root = Path::new(root);
+    let mut tally = Tally::default();
+    contracts(root, &mut tally);
+    edits(root, &mut tally);
+    axioms(root, &mut tally);
+    named_files(root, &mut tally);
+    samples(root, bench, &mut tally);
+    println!("{} passed, {} failed", tally.passed, tally.failed);
+    ExitCode::from(u8::from(tally.failed > 0))
+}
+
+fn text(path: &Path) -> String {
+    fs::read_to_string(path).unwrap_or_default()
+}
+
+fn contracts(root: &Path, tally: &mut Tally) {
+    let page = text(&root.join("docs/CONTRACTS.md"));
+    let theorems = text(&root.join("crates/promises/specs/OneAnswer.antt"));
+    let functions = public_functions(&root.join("crates"));
+    tally.fact(!functions.is_empty(), || "no public function was found".into());
+    for PublicFunction { krate, name, contract } in functions {
+        let theorem = format!("{krate}-{}", name.replace('_', "-"));
+        tally.fact(contract.contains("ensures"), || format!("{krate}::{name} ensures nothing"));
+        tally.fact(!contract.contains("requires"), || format!("{krate}::{name} requires something"));
+        tally.fact(page.contains(&format!("| `{name}(")), || format!("docs/CONTRACTS.md has no row for {krate}::{name}"));
+        tally.fact(page.contains(&format!("`{theorem}`")), || format!("docs/CONTRACTS.md does not name {theorem}"));
+        tally.fact(theorems.contains(&format!("pub {theorem} :")), || format!("OneAnswer.antt has no theorem {theorem}"));
+    }
+}
+
+fn edits(root: &Path, tally: &mut Tally) {
+    let page = text(&root.join("docs/CONTRACTS.md"));
+    for path in below(&root.join("crates"), "edit") {
+        let label = path.file_stem().unwrap().to_string_lossy().into_owned();
+        tally.fact(page.contains(&format!("`{label}`")), || format!("docs/CONTRACTS.md does not name the edit {}", path.display()));
+    }
+}
+
+fn axioms(root: &Path, tally: &mut Tally) {
+    for path in below(&root.join("crates"), "antt") {
+        let declares = text(&path).lines().any(|line| line.trim_start().trim_start_matches("pub ").starts_with("axiom "));
+        tally.fact(!declares, || format!("{} declares an axiom", path.display()));
+    }
+}
+
+/// What a page has between backticks and begins like a place of the repository must be there.
+fn named_files(root: &Path, tally: &mut Tally) {
+    for page in PAGES {
+        let text = text(&root.join(page));
+        tally.fact(!text.is_empty(), || format!("{page} is missing or empty"));
+        for named in text.split('`').skip(1).step_by(2) {
+            let place = named.split([' ', ':']).next().unwrap_or("");
+            let begins = ["crates/", "docs/", "tests/", "samples/", "tools/", "benchmarks/"].iter().any(|p| place.starts_with(p));
+            let pattern = place.contains("NAME") || place.contains("LABEL") || place.contains('*') || place.contains("/target/");
+            if begins && !pattern {
+                tally.fact(root.join(place).exists(), || format!("{page} names {place}, which is not there"));
+            }
+        }
+    }
+}
+
+/// samples/X.lines is a script for bench, and samples/X.answers what it answers.
+fn samples(root: &Path, bench: &str, tally: &mut Tally) {
+    let scripts = below(&root.join("samples"), "lines");
+    tally.fact(!scripts.is_empty(), || "samples/ has no script".into());
+    for script in scripts {
+        let answered = fs::File::open(&script).ok().and_then(|input| {
+            Command::new(bench).stdin(input).stdout(Stdio::piped()).output().ok().map(|output| output.stdout)
+        });
+        let expected = fs::read(script.with_extension("answers")).ok();
+        tally.fact(answered.is_some() && answered == expected, || {
+            format!("{} is not answered as {} says", script.display(), script.with_extension("answers").display())
+        });
+    }
+}

@@ -1,0 +1,31 @@
+//! Document 01, "Numbers an answer can carry": those that reading gives.
+
+pub type Refusal = u16;
+
+pub const PAYLOAD_TYPE: Refusal = 1;
+pub const DOI: Refusal = 2;
+pub const SITUATION: Refusal = 3;
+pub const COOKIE: Refusal = 4;
+pub const MAJOR_VERSION: Refusal = 5;
+pub const MINOR_VERSION: Refusal = 6;
+pub const EXCHANGE_TYPE: Refusal = 7;
+pub const FLAG: Refusal = 8;
+pub const MESSAGE_ID: Refusal = 9;
+pub const PROTOCOL: Refusal = 10;
+pub const SPI: Refusal = 11;
+pub const ATTRIBUTE: Refusal = 13;
+pub const SA_SYNTAX: Refusal = 15;
+pub const MALFORMED: Refusal = 16;
+pub const IDENTITY: Refusal = 18;
+pub const CERTIFICATE_ENCODING: Refusal = 19;
+pub const EXCHANGE_1_OR_3: Refusal = 29;
+pub const LENGTHS: Refusal = 30;
+
+/// One check: its number if the test finds something wrong.
+pub fn refuse_if(wrong: bool, number: Refusal) -> Result<(), Refusal> {
+    if wrong {
+        Err(number)
+    } else {
+        Ok(())
+    }
+}
