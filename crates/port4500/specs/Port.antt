@@ -5,7 +5,7 @@ use lib.ListN.{length, take, drop}
 use lib.Dec.{ltb}
 use Rattle.wire.specs.Wire.{equal}
 use Rattle.wire.specs.Tests.{if_then_else_}
-use Rattle.wire.specs.Answer.{Answer}
+use Rattle.wire.specs.Answer.{Answer, done, refused}
 use Rattle.port4500.specs.declared.Datagram.{Datagram}
 use Rattle.port4500.specs.declared.Datagram.the-variants.{Keepalive, KeyExchange, Esp, Refused}
 
@@ -31,7 +31,7 @@ handedOn (Refused number) s = []
 
 -- the paper's number and values for each case
 unfoldable pub answer : Datagram → Answer
-answer Keepalive = record { number = 0; values = 1 ∷ [] }
-answer (KeyExchange start length) = record { number = 0; values = 2 ∷ start ∷ length ∷ [] }
-answer (Esp length) = record { number = 0; values = 3 ∷ length ∷ [] }
-answer (Refused number) = record { number = number; values = [] }
+answer Keepalive = done (1 ∷ [])
+answer (KeyExchange start length) = done (2 ∷ start ∷ length ∷ [])
+answer (Esp length) = done (3 ∷ length ∷ [])
+answer (Refused number) = refused number
