@@ -1,0 +1,12 @@
+use Rattle.attribute.specs.Attributes.{fixedWrong}
+use borrow.Author.Needs.{needs}
+use Rattle.attribute.proofs.fixed_wrong.Statement.{statement}
+use Rattle.attribute.proofs.fixed_wrong.Tie as tie
+
+pub fixed-wrong-spec : {M : Type 1} → statement M
+unfolding fixedWrong
+fixed-wrong-spec =
+    tie.close (tie.spec (λ c κs. search needs)
+    (λ c κs. search needs)
+    (λ c κs. search needs)
+    (λ c. cc))

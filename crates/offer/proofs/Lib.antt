@@ -1,0 +1,2 @@
+mod TransformWays
+mod ProposalWays

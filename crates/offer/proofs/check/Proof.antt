@@ -1,0 +1,18 @@
+use Rattle.offer.proofs.ProposalWays.{offer-short, offer-doi, offer-situation, offer-proposals}
+use borrow.Author.Needs.{needs}
+use Rattle.offer.proofs.check.Statement.{statement}
+use Rattle.offer.proofs.check.Tie as tie
+
+pub check-spec : {M : Type 1} → statement M
+check-spec =
+    tie.close
+    (tie.spec
+    (λ c. search offer-short)
+    (λ c κs. search needs)
+    (λ c. search offer-doi)
+    (λ c κs. search needs)
+    (λ c. search offer-situation)
+    (λ c κs. search needs)
+    (λ c κs. search needs)
+    (λ c κs. search needs)
+    (λ c. search offer-proposals))

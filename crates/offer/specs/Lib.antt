@@ -1,0 +1,2 @@
+pub mod Transforms
+pub mod Proposals

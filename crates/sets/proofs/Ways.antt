@@ -1,0 +1,82 @@
+-- A law for each way out of the functions that take parts out of a body.
+use Prim.Native.Nat.{ℕ, zero, suc, _+_, _-_, _≤_, _<_}
+use mathlib.Core.Path.{_≡_, refl, sym, _∙_}
+use mathlib.Core.List.{List}
+use mathlib.Core.Bool.{Bool, true, false, not, _||_}
+use native.Mathlib.Omega.{arith}
+use lib.ListN.{length, getD, take, drop}
+use lib.Dec.{ltb, eqb}
+use borrow.Author.Tests.{eq-eqb, ne-eqb, lt-ltb}
+use Rattle.wire.specs.Wire.{numberAt}
+use Rattle.wire.specs.Tests.{if_then_else_}
+use Rattle.sets.specs.Parts.{skip, parts, setEnd}
+
+-- ---- parts, whatever takes off the first
+
+if-most : (b : Bool) (n m : ℕ) → n ≤ m → (if b then 0 else 1 + n) ≤ suc m
+if-most true n m h = omega arith
+if-most false n m h = omega arith
+
+module _ (rest : List ℕ → List ℕ) where
+  skip-step : (k : ℕ) (s : List ℕ) → (k ≡ 0 → ⊥) → skip rest k s ≡ skip rest (k - 1) (rest s)
+  unfolding skip
+  skip-step zero s h = absurd (h refl)
+  skip-step (suc k) s h = let i : suc k - 1 ≡ k = omega arith in rw i
+
+  parts-step : (left : ℕ) (s : List ℕ) → (left ≡ 0 → ⊥) → parts rest left s ≡ (if eqb (length s) 0 then 0 else 1 + parts rest (left - 1) (rest s))
+  unfolding parts
+  parts-step zero s h = absurd (h refl)
+  parts-step (suc left) s h = let i : suc left - 1 ≡ left = omega arith in rw i
+
+  -- no more parts are counted than may be
+  parts-most : (left : ℕ) (s : List ℕ) → parts rest left s ≤ left
+  unfolding parts
+  parts-most zero s = omega arith
+  parts-most (suc left) s = if-most (eqb (length s) 0) (parts rest left (rest s)) left (parts-most left (rest s))
+
+  pub parts-below : (left n : ℕ) (s : List ℕ) → n ≡ parts rest left s → n ≤ left
+  parts-below left n s e = omega (arith, parts-most left s)
+
+  module _ (k : ℕ) (s : List ℕ) where
+    pub skip-here : k ≡ 0 → s ≡ skip rest k s
+    unfolding skip
+    skip-here z = rw z
+
+    pub skip-on : (k ≡ 0 → ⊥) → (t r : List ℕ) → t ≡ rest s → r ≡ skip rest (k - 1) t → r ≡ skip rest k s
+    skip-on h t r et e = rw (skip-step k s h, ← et) e
+
+  module _ (left : ℕ) (s : List ℕ) where
+    pub parts-out : left ≡ 0 → 0 ≡ parts rest left s
+    unfolding parts
+    parts-out z = rw z
+
+    module _ (may : left ≡ 0 → ⊥) where
+      pub parts-end : length s ≡ 0 → 0 ≡ parts rest left s
+      parts-end h = rw (parts-step left s may, eq-eqb (length s) 0 h)
+
+      pub parts-on : (length s ≡ 0 → ⊥) → (t : List ℕ) (n : ℕ) → t ≡ rest s → n ≡ parts rest (left - 1) t → 1 + n ≡ parts rest left s
+      parts-on h t n et e = rw (parts-step left s may, ne-eqb (length s) 0 h, ← et, ← e)
+
+-- ---- where a set ends
+
+end-step : (left number : ℕ) (s : List ℕ) (at : ℕ) → (left ≡ 0 → ⊥) →
+    setEnd left number s at ≡ (if ltb (length s) (at + 8) || not (eqb (getD s (at + 4) 0) number) then at else setEnd (left - 1) number s (at + numberAt 2 s (at + 2)))
+unfolding setEnd
+end-step zero number s at h = absurd (h refl)
+end-step (suc left) number s at h = let i : suc left - 1 ≡ left = omega arith in rw i
+
+module _ (left number : ℕ) (s : List ℕ) (at : ℕ) where
+  pub end-out : left ≡ 0 → at ≡ setEnd left number s at
+  unfolding setEnd
+  end-out z = rw z
+
+  module _ (may : left ≡ 0 → ⊥) where
+    pub end-past : length s ≤ at → at ≡ setEnd left number s at
+    end-past h = rw (end-step left number s at may, lt-ltb (length s) (at + 8) (omega arith))
+
+    module _ (b : ℕ) (eb : b ≡ getD s (at + 4) 0) where
+      pub end-other : (ltb (length s) (at + 8) || not (eqb b number)) ≡ true → at ≡ setEnd left number s at
+      end-other h = rw (end-step left number s at may, ← eb, h)
+
+      pub end-on : (ltb (length s) (at + 8) || not (eqb b number)) ≡ false → (n r : ℕ) → n ≡ numberAt 2 s (at + 2) → r ≡ setEnd (left - 1) number s (at + n) → r ≡ setEnd left number s at
+      end-on h n r en e = rw (end-step left number s at may, ← eb, h, ← en) e

@@ -1,0 +1,9 @@
+use Rattle.sets.specs.Parts.{attributesOf}
+use borrow.Author.Needs.{needs}
+use Rattle.sets.proofs.attributes_of.Statement.{statement}
+use Rattle.sets.proofs.attributes_of.Tie as tie
+
+pub attributes-of-spec : {M : Type 1} → statement M
+unfolding attributesOf
+attributes-of-spec = tie.close (tie.spec (λ c κs. search needs)
+    (λ c. cc))

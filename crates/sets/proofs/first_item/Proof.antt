@@ -1,0 +1,11 @@
+use Rattle.sets.specs.Parts.{firstItem}
+use borrow.Author.Needs.{needs}
+use Rattle.sets.proofs.first_item.Statement.{statement}
+use Rattle.sets.proofs.first_item.Tie as tie
+
+pub first-item-spec : {M : Type 1} → statement M
+unfolding firstItem
+first-item-spec = tie.close (tie.spec (λ c κs. search needs)
+    (λ c. search needs)
+    (λ c κs. search needs)
+    (λ c. cc))

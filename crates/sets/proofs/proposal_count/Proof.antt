@@ -1,0 +1,9 @@
+use Rattle.sets.specs.Parts.{proposalCount}
+use borrow.Author.Needs.{needs}
+use Rattle.sets.proofs.proposal_count.Statement.{statement}
+use Rattle.sets.proofs.proposal_count.Tie as tie
+
+pub proposal-count-spec : {M : Type 1} → statement M
+unfolding proposalCount
+proposal-count-spec = tie.close (tie.spec (λ c κs. search needs)
+    (λ c. cc))

@@ -1,0 +1,9 @@
+use Rattle.sets.specs.Parts.{transformCount}
+use borrow.Author.Needs.{needs}
+use Rattle.sets.proofs.transform_count.Statement.{statement}
+use Rattle.sets.proofs.transform_count.Tie as tie
+
+pub transform-count-spec : {M : Type 1} → statement M
+unfolding transformCount
+transform-count-spec = tie.close (tie.spec (λ c κs. search needs)
+    (λ c. cc))

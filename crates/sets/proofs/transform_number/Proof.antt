@@ -1,0 +1,9 @@
+use Rattle.sets.specs.Parts.{transformNumber}
+use borrow.Author.Needs.{needs}
+use Rattle.sets.proofs.transform_number.Statement.{statement}
+use Rattle.sets.proofs.transform_number.Tie as tie
+
+pub transform-number-spec : {M : Type 1} → statement M
+unfolding transformNumber
+transform-number-spec = tie.close (tie.spec (λ c κs. search needs)
+    (λ c. cc))

@@ -1,0 +1,82 @@
+-- What later layers take out of an SA payload's body that reads. Of any other body these give something, and nothing is said of it.
+use Prim.Native.Nat.{ℕ, zero, suc, _+_}
+use mathlib.Core.List.{List}
+use mathlib.Core.Bool.{Bool, true, false, not, _||_}
+use lib.ListN.{length, getD, take, drop}
+use lib.Dec.{ltb, eqb}
+use Rattle.wire.specs.Wire.{numberAt}
+use Rattle.wire.specs.Tests.{if_then_else_}
+use Rattle.offer.specs.Proposals.{transformBytes}
+use Rattle.sets.specs.declared.ProposalNumber.{ProposalNumber}
+use Rattle.sets.specs.declared.TransformNumber.{TransformNumber}
+
+-- what is left of s after k of its parts, where rest takes off the first
+unfoldable pub skip : (List ℕ → List ℕ) → ℕ → List ℕ → List ℕ
+skip rest zero s = s
+skip rest (suc k) s = skip rest k (rest s)
+
+-- how many parts s has, at most left
+unfoldable pub parts : (List ℕ → List ℕ) → ℕ → List ℕ → ℕ
+parts rest zero s = 0
+parts rest (suc left) s = if eqb (length s) 0 then 0 else 1 + parts rest left (rest s)
+
+-- proposals, and transforms, lie one behind the other, each with its length in its bytes 2 and 3
+unfoldable pub firstItem : List ℕ → List ℕ
+firstItem s = take (numberAt 2 s 2) s
+
+unfoldable pub afterItem : List ℕ → List ℕ
+afterItem s = drop (numberAt 2 s 2) s
+
+-- "Proposals with equal number form one set": where the proposals with this number end, of which so many may come from at on
+unfoldable pub setEnd : ℕ → ℕ → List ℕ → ℕ → ℕ
+setEnd zero number s at = at
+setEnd (suc left) number s at =
+    if ltb (length s) (at + 8) || not (eqb (getD s (at + 4) 0) number) then at
+    else setEnd left number s (at + numberAt 2 s (at + 2))
+
+-- the set at the front of s, and what follows it
+unfoldable pub firstSet : List ℕ → List ℕ
+firstSet s = take (setEnd 16 (getD s 4 0) s 0) s
+
+unfoldable pub afterSet : List ℕ → List ℕ
+afterSet s = drop (setEnd 16 (getD s 4 0) s 0) s
+
+-- set k of a body, counted from 0: its proposals as bytes; and how many sets there are
+unfoldable pub set : ℕ → List ℕ → List ℕ
+set k body = firstSet (skip afterSet k (drop 8 body))
+
+unfoldable pub setCount : List ℕ → ℕ
+setCount body = parts afterSet 16 (drop 8 body)
+
+-- proposal k of a set, counted from 0, and how many it has
+unfoldable pub proposal : ℕ → List ℕ → List ℕ
+proposal k set = firstItem (skip afterItem k set)
+
+unfoldable pub proposalCount : List ℕ → ℕ
+proposalCount set = parts afterItem 16 set
+
+-- a proposal's number, protocol, SPI, count of transforms, and its transform k
+unfoldable pub proposalNumber : List ℕ → ProposalNumber
+proposalNumber p = record { 0 = getD p 4 0 }
+
+unfoldable pub protocol : List ℕ → ℕ
+protocol p = getD p 5 0
+
+unfoldable pub spi : List ℕ → List ℕ
+spi p = take (getD p 6 0) (drop 8 p)
+
+unfoldable pub transformCount : List ℕ → ℕ
+transformCount p = getD p 7 0
+
+unfoldable pub transform : ℕ → List ℕ → List ℕ
+transform k p = firstItem (skip afterItem k (transformBytes p))
+
+-- a transform's number, ID and attributes
+unfoldable pub transformNumber : List ℕ → TransformNumber
+transformNumber t = record { 0 = getD t 4 0 }
+
+unfoldable pub transformId : List ℕ → ℕ
+transformId t = getD t 5 0
+
+unfoldable pub attributesOf : List ℕ → List ℕ
+attributesOf t = drop 8 t

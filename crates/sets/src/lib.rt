@@ -1,0 +1,173 @@
+// What later layers take out of an SA payload's body that reads: sets, proposals, transforms. Every function takes any bytes.
+use offer::transform_bytes;
+use wire::after;
+use wire::be16;
+use wire::byte;
+use wire::front;
+ghost use mathlib.Core.Path.{_≡_};
+ghost use Rattle.sets.specs.Parts.{skip, parts, firstItem, afterItem, setEnd, firstSet, afterSet, set, setCount, proposal, proposalCount, proposalNumber, protocol, spi, transformCount, transform, transformNumber, transformId, attributesOf};
+
+// Proposal numbers and transform numbers are separate countings.
+pub struct ProposalNumber(pub u8);
+
+pub struct TransformNumber(pub u8);
+
+fn first_item(s: &[u8]) -> &[u8]
+    ensures { λ r. ⌜ now r ≡ firstItem (now (s .entry)) ⌝ }
+{
+    front(s, be16(s, 2) as usize)
+}
+
+fn after_item(s: &[u8]) -> &[u8]
+    ensures { λ r. ⌜ now r ≡ afterItem (now (s .entry)) ⌝ }
+{
+    after(s, be16(s, 2) as usize)
+}
+
+fn skip_items(k: u8, s: &[u8]) -> &[u8]
+    ensures { λ r. ⌜ now r ≡ skip afterItem k (now (s .entry)) ⌝ }
+{
+    if k == 0 {
+        s
+    } else {
+        skip_items(k - 1, after_item(s))
+    }
+}
+
+fn items(left: u8, s: &[u8]) -> u8
+    ensures { λ r. ⌜ r ≡ parts afterItem left (now (s .entry)) ⌝ }
+{
+    if left == 0 {
+        return 0;
+    }
+    if s.len() == 0 {
+        return 0;
+    }
+    1 + items(left - 1, after_item(s))
+}
+
+fn set_end(left: u8, number: u8, s: &[u8], at: usize) -> usize
+    ensures { λ r. ⌜ r ≡ setEnd left number (now (s .entry)) at ⌝ }
+{
+    if left == 0 {
+        return at;
+    }
+    if s.len() <= at {
+        return at;
+    }
+    if (s.len() < at + 8) | (byte(s, at + 4) != number) {
+        return at;
+    }
+    set_end(left - 1, number, s, at + be16(s, at + 2) as usize)
+}
+
+fn first_set(s: &[u8]) -> &[u8]
+    ensures { λ r. ⌜ now r ≡ firstSet (now (s .entry)) ⌝ }
+{
+    front(s, set_end(16, byte(s, 4), s, 0))
+}
+
+fn after_set(s: &[u8]) -> &[u8]
+    ensures { λ r. ⌜ now r ≡ afterSet (now (s .entry)) ⌝ }
+{
+    after(s, set_end(16, byte(s, 4), s, 0))
+}
+
+fn skip_sets(k: u8, s: &[u8]) -> &[u8]
+    ensures { λ r. ⌜ now r ≡ skip afterSet k (now (s .entry)) ⌝ }
+{
+    if k == 0 {
+        s
+    } else {
+        skip_sets(k - 1, after_set(s))
+    }
+}
+
+fn sets(left: u8, s: &[u8]) -> u8
+    ensures { λ r. ⌜ r ≡ parts afterSet left (now (s .entry)) ⌝ }
+{
+    if left == 0 {
+        return 0;
+    }
+    if s.len() == 0 {
+        return 0;
+    }
+    1 + sets(left - 1, after_set(s))
+}
+
+// The proposals of set k, counted from 0, as bytes.
+pub fn set(k: u8, body: &[u8]) -> &[u8]
+    ensures { λ r. ⌜ now r ≡ set k (now (body .entry)) ⌝ }
+{
+    first_set(skip_sets(k, after(body, 8)))
+}
+
+// How many sets a body has.
+pub fn set_count(body: &[u8]) -> u8
+    ensures { λ r. ⌜ r ≡ setCount (now (body .entry)) ⌝ }
+{
+    sets(16, after(body, 8))
+}
+
+// Proposal k of a set, counted from 0.
+pub fn proposal(k: u8, set: &[u8]) -> &[u8]
+    ensures { λ r. ⌜ now r ≡ proposal k (now (set .entry)) ⌝ }
+{
+    first_item(skip_items(k, set))
+}
+
+// How many proposals a set has.
+pub fn proposal_count(set: &[u8]) -> u8
+    ensures { λ r. ⌜ r ≡ proposalCount (now (set .entry)) ⌝ }
+{
+    items(16, set)
+}
+
+pub fn proposal_number(p: &[u8]) -> ProposalNumber
+    ensures { λ r. ⌜ r ≡ proposalNumber (now (p .entry)) ⌝ }
+{
+    ProposalNumber(byte(p, 4))
+}
+
+pub fn protocol(p: &[u8]) -> u8
+    ensures { λ r. ⌜ r ≡ protocol (now (p .entry)) ⌝ }
+{
+    byte(p, 5)
+}
+
+pub fn spi(p: &[u8]) -> &[u8]
+    ensures { λ r. ⌜ now r ≡ spi (now (p .entry)) ⌝ }
+{
+    front(after(p, 8), byte(p, 6) as usize)
+}
+
+pub fn transform_count(p: &[u8]) -> u8
+    ensures { λ r. ⌜ r ≡ transformCount (now (p .entry)) ⌝ }
+{
+    byte(p, 7)
+}
+
+// Transform k of a proposal, counted from 0.
+pub fn transform(k: u8, p: &[u8]) -> &[u8]
+    ensures { λ r. ⌜ now r ≡ transform k (now (p .entry)) ⌝ }
+{
+    first_item(skip_items(k, transform_bytes(p)))
+}
+
+pub fn transform_number(t: &[u8]) -> TransformNumber
+    ensures { λ r. ⌜ r ≡ transformNumber (now (t .entry)) ⌝ }
+{
+    TransformNumber(byte(t, 4))
+}
+
+pub fn transform_id(t: &[u8]) -> u8
+    ensures { λ r. ⌜ r ≡ transformId (now (t .entry)) ⌝ }
+{
+    byte(t, 5)
+}
+
+pub fn attributes_of(t: &[u8]) -> &[u8]
+    ensures { λ r. ⌜ now r ≡ attributesOf (now (t .entry)) ⌝ }
+{
+    after(t, 8)
+}
