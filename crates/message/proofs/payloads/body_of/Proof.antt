@@ -1,0 +1,12 @@
+use Rattle.message.specs.Payloads.{bodyOf}
+use borrow.Author.Needs.{needs}
+use Rattle.message.proofs.payloads.body_of.Statement.{statement}
+use Rattle.message.proofs.payloads.body_of.Tie as tie
+
+pub body-of-spec : {M : Type 1} → statement M
+unfolding bodyOf
+body-of-spec = tie.close (tie.spec (λ c κs. search needs)
+    (λ c. search needs)
+    (λ c κs. search needs)
+    (λ c κs. search needs)
+    (λ c. cc))

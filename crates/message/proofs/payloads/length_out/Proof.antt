@@ -1,0 +1,10 @@
+use Rattle.message.specs.Payloads.{lengthOut}
+use borrow.Author.Needs.{needs}
+use Rattle.message.proofs.payloads.length_out.Statement.{statement}
+use Rattle.message.proofs.payloads.length_out.Tie as tie
+
+pub length-out-spec : {M : Type 1} → statement M
+unfolding lengthOut
+length-out-spec = tie.close (tie.spec (λ c κs. search needs)
+    (λ c. search needs)
+    (λ c. cc))

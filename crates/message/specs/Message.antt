@@ -1,0 +1,69 @@
+-- The reading of a message, document 01: "The reading gives exchange, count, and type, start and length of each payload."
+use Prim.Native.Nat.{ℕ, zero, suc, _+_}
+use mathlib.Core.List.{List, [], _∷_}
+use mathlib.Core.Bool.{Bool, true, false, not, _||_}
+use lib.ListN.{length, getD, drop}
+use lib.Dec.{eqb}
+use Rattle.wire.specs.Wire.{numberAt}
+use Rattle.wire.specs.Tests.{if_then_else_}
+use Rattle.wire.specs.Answer.{Answer, done}
+use Rattle.wire.specs.Answer as Answers
+use Rattle.message.specs.Header.{exchangeOf, flagsOf, firstPayload, headerCode}
+use Rattle.message.specs.Payloads.{payloadCode, restCode}
+use Rattle.message.specs.declared.Payload.{Payload}
+use Rattle.message.specs.declared.Message.{Message}
+use Rattle.message.specs.declared.Message.the-variants.{Refused, Read}
+
+-- a message is refused, or its payloads are found
+pub data Reading : Type 0 where
+  refused : ℕ → Reading
+  payloads : List Payload → Reading
+
+unfoldable pub first : Payload → Reading → Reading
+first p (refused number) = refused number
+first p (payloads ps) = payloads (p ∷ ps)
+
+-- each payload in its turn, "a 33rd: 16": left may come, this one is of that type, another is whether an SA payload came before, and s is
+-- what follows from start on
+unfoldable pub chain : ℕ → ℕ → ℕ → Bool → ℕ → ℕ → List ℕ → Reading
+chain zero exchange flags another type start s = refused 16
+chain (suc left) exchange flags another type start s =
+    if not (eqb (payloadCode exchange another type s) 0) then refused (payloadCode exchange another type s)
+    else first (record { kind = type; start = start; length = numberAt 2 s 2 })
+    (if not (eqb (getD s 0 0) 0) then chain left exchange flags (another || eqb type 1) (getD s 0 0) (start + numberAt 2 s 2) (drop (numberAt 2 s 2) s)
+    else if not (eqb (restCode flags (drop (numberAt 2 s 2) s)) 0) then refused (restCode flags (drop (numberAt 2 s 2) s))
+    else payloads [])
+
+unfoldable pub reading : List ℕ → Reading
+reading m =
+    if not (eqb (headerCode m) 0) then refused (headerCode m)
+    else chain 32 (exchangeOf m) (flagsOf m) false (firstPayload m) 28 (drop 28 m)
+
+-- what is answered: before payloads were found, and then these
+unfoldable pub counted : ℕ → ℕ → Reading → Message
+counted exchange before (refused number) = Refused number
+counted exchange before (payloads ps) = Read exchange (before + length ps)
+
+unfoldable pub message : List ℕ → Message
+message m = counted (exchangeOf m) 0 (reading m)
+
+-- payload k from the one of this type at start on: its type stands in the one before it, its length in its bytes 2 and 3
+unfoldable pub walk : ℕ → ℕ → ℕ → List ℕ → Payload
+walk zero type start m = record { kind = type; start = start; length = numberAt 2 m (start + 2) }
+walk (suc k) type start m = walk k (getD m start 0) (start + numberAt 2 m (start + 2)) m
+
+unfoldable pub payloadAt : ℕ → List ℕ → Payload
+payloadAt k m = walk k (firstPayload m) 28 m
+
+-- the paper's number and values: of what `read` answers, and of the whole reading, with each payload's type, start and length
+unfoldable pub answer : Message → Answer
+answer (Refused number) = Answers.refused number
+answer (Read exchange count) = done (exchange ∷ count ∷ [])
+
+unfoldable pub shownPayloads : List Payload → List ℕ
+shownPayloads [] = []
+shownPayloads (p ∷ ps) = p .kind ∷ p .start ∷ p .length ∷ shownPayloads ps
+
+unfoldable pub shown : Reading → ℕ → Answer
+shown (refused number) exchange = Answers.refused number
+shown (payloads ps) exchange = done (exchange ∷ length ps ∷ shownPayloads ps)
