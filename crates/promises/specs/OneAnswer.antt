@@ -37,6 +37,52 @@ use Rattle.port4500.proofs.read.Kinds as port4500-read-kinds
 use Rattle.port4500.proofs.read.Reads as port4500-read-reads
 use Rattle.port4500.proofs.handed_on.Kinds as port4500-handed-on-kinds
 use Rattle.port4500.proofs.handed_on.Reads as port4500-handed-on-reads
+use Rattle.identity.proofs.check.Kinds as identity-check-kinds
+use Rattle.identity.proofs.check.Reads as identity-check-reads
+use Rattle.attribute.proofs.sent_fixed.Kinds as attribute-sent-fixed-kinds
+use Rattle.attribute.proofs.sent_fixed.Reads as attribute-sent-fixed-reads
+use Rattle.attribute.proofs.attribute_type.Kinds as attribute-attribute-type-kinds
+use Rattle.attribute.proofs.attribute_type.Reads as attribute-attribute-type-reads
+use Rattle.attribute.proofs.attribute.Kinds as attribute-attribute-kinds
+use Rattle.attribute.proofs.attribute.Reads as attribute-attribute-reads
+use Rattle.attribute.proofs.attributes_lawful.Kinds as attribute-attributes-lawful-kinds
+use Rattle.attribute.proofs.attributes_lawful.Reads as attribute-attributes-lawful-reads
+use Rattle.attribute.proofs.value.Kinds as attribute-value-kinds
+use Rattle.attribute.proofs.value.Reads as attribute-value-reads
+use Rattle.sets.proofs.set.Kinds as sets-set-kinds
+use Rattle.sets.proofs.set.Reads as sets-set-reads
+use Rattle.sets.proofs.set_count.Kinds as sets-set-count-kinds
+use Rattle.sets.proofs.set_count.Reads as sets-set-count-reads
+use Rattle.sets.proofs.proposal.Kinds as sets-proposal-kinds
+use Rattle.sets.proofs.proposal.Reads as sets-proposal-reads
+use Rattle.sets.proofs.proposal_count.Kinds as sets-proposal-count-kinds
+use Rattle.sets.proofs.proposal_count.Reads as sets-proposal-count-reads
+use Rattle.sets.proofs.proposal_number.Kinds as sets-proposal-number-kinds
+use Rattle.sets.proofs.proposal_number.Reads as sets-proposal-number-reads
+use Rattle.sets.proofs.protocol.Kinds as sets-protocol-kinds
+use Rattle.sets.proofs.protocol.Reads as sets-protocol-reads
+use Rattle.sets.proofs.spi.Kinds as sets-spi-kinds
+use Rattle.sets.proofs.spi.Reads as sets-spi-reads
+use Rattle.sets.proofs.transform_count.Kinds as sets-transform-count-kinds
+use Rattle.sets.proofs.transform_count.Reads as sets-transform-count-reads
+use Rattle.sets.proofs.transform.Kinds as sets-transform-kinds
+use Rattle.sets.proofs.transform.Reads as sets-transform-reads
+use Rattle.sets.proofs.transform_number.Kinds as sets-transform-number-kinds
+use Rattle.sets.proofs.transform_number.Reads as sets-transform-number-reads
+use Rattle.sets.proofs.transform_id.Kinds as sets-transform-id-kinds
+use Rattle.sets.proofs.transform_id.Reads as sets-transform-id-reads
+use Rattle.sets.proofs.attributes_of.Kinds as sets-attributes-of-kinds
+use Rattle.sets.proofs.attributes_of.Reads as sets-attributes-of-reads
+use Rattle.offer.proofs.transform_bytes.Kinds as offer-transform-bytes-kinds
+use Rattle.offer.proofs.transform_bytes.Reads as offer-transform-bytes-reads
+use Rattle.offer.proofs.check.Kinds as offer-check-kinds
+use Rattle.offer.proofs.check.Reads as offer-check-reads
+use Rattle.message.proofs.read.Kinds as message-read-kinds
+use Rattle.message.proofs.read.Reads as message-read-reads
+use Rattle.message.proofs.payload_at.Kinds as message-payload-at-kinds
+use Rattle.message.proofs.payload_at.Reads as message-payload-at-reads
+use Rattle.message.proofs.payloads.body_of.Kinds as message-body-of-kinds
+use Rattle.message.proofs.payloads.body_of.Reads as message-body-of-reads
 
 -- two answers to one call agree in what is seen of them
 abbrev pub OneAnswer : (n : ℕ) (ps : List (PK n)) (r : RK n) {A : Type 0} → ((κs : Lfts n) → resT r κs .Denot → AtExit (endedOf n ps r) κs → A) → Out n ps r → Type 0
@@ -88,3 +134,72 @@ port4500-read κs arguments x y s t p q = p ∙ sym q
 
 pub port4500-handed-on : OneAnswer 1 port4500-handed-on-kinds.ps port4500-handed-on-kinds.r (λ κs x s. now x) port4500-handed-on-reads.Post
 port4500-handed-on κs arguments x y s t p q = p ∙ sym q
+
+pub identity-check : OneAnswer 1 identity-check-kinds.ps identity-check-kinds.r (λ κs x s. x) identity-check-reads.Post
+identity-check κs arguments x y s t p q = p ∙ sym q
+
+pub attribute-sent-fixed : OneAnswer 1 attribute-sent-fixed-kinds.ps attribute-sent-fixed-kinds.r (λ κs x s. x) attribute-sent-fixed-reads.Post
+attribute-sent-fixed κs arguments x y s t p q = p ∙ sym q
+
+pub attribute-attribute-type : OneAnswer 1 attribute-attribute-type-kinds.ps attribute-attribute-type-kinds.r (λ κs x s. x) attribute-attribute-type-reads.Post
+attribute-attribute-type κs arguments x y s t p q = p ∙ sym q
+
+pub attribute-attribute : OneAnswer 1 attribute-attribute-kinds.ps attribute-attribute-kinds.r (λ κs x s. now x) attribute-attribute-reads.Post
+attribute-attribute κs arguments x y s t p q = p ∙ sym q
+
+pub attribute-attributes-lawful : OneAnswer 1 attribute-attributes-lawful-kinds.ps attribute-attributes-lawful-kinds.r (λ κs x s. x) attribute-attributes-lawful-reads.Post
+attribute-attributes-lawful κs arguments x y s t p q = p ∙ sym q
+
+pub attribute-value : OneAnswer 1 attribute-value-kinds.ps attribute-value-kinds.r (λ κs x s. x) attribute-value-reads.Post
+attribute-value κs arguments x y s t p q = p ∙ sym q
+
+pub sets-set : OneAnswer 1 sets-set-kinds.ps sets-set-kinds.r (λ κs x s. now x) sets-set-reads.Post
+sets-set κs arguments x y s t p q = p ∙ sym q
+
+pub sets-set-count : OneAnswer 1 sets-set-count-kinds.ps sets-set-count-kinds.r (λ κs x s. x) sets-set-count-reads.Post
+sets-set-count κs arguments x y s t p q = p ∙ sym q
+
+pub sets-proposal : OneAnswer 1 sets-proposal-kinds.ps sets-proposal-kinds.r (λ κs x s. now x) sets-proposal-reads.Post
+sets-proposal κs arguments x y s t p q = p ∙ sym q
+
+pub sets-proposal-count : OneAnswer 1 sets-proposal-count-kinds.ps sets-proposal-count-kinds.r (λ κs x s. x) sets-proposal-count-reads.Post
+sets-proposal-count κs arguments x y s t p q = p ∙ sym q
+
+pub sets-proposal-number : OneAnswer 1 sets-proposal-number-kinds.ps sets-proposal-number-kinds.r (λ κs x s. x) sets-proposal-number-reads.Post
+sets-proposal-number κs arguments x y s t p q = p ∙ sym q
+
+pub sets-protocol : OneAnswer 1 sets-protocol-kinds.ps sets-protocol-kinds.r (λ κs x s. x) sets-protocol-reads.Post
+sets-protocol κs arguments x y s t p q = p ∙ sym q
+
+pub sets-spi : OneAnswer 1 sets-spi-kinds.ps sets-spi-kinds.r (λ κs x s. now x) sets-spi-reads.Post
+sets-spi κs arguments x y s t p q = p ∙ sym q
+
+pub sets-transform-count : OneAnswer 1 sets-transform-count-kinds.ps sets-transform-count-kinds.r (λ κs x s. x) sets-transform-count-reads.Post
+sets-transform-count κs arguments x y s t p q = p ∙ sym q
+
+pub sets-transform : OneAnswer 1 sets-transform-kinds.ps sets-transform-kinds.r (λ κs x s. now x) sets-transform-reads.Post
+sets-transform κs arguments x y s t p q = p ∙ sym q
+
+pub sets-transform-number : OneAnswer 1 sets-transform-number-kinds.ps sets-transform-number-kinds.r (λ κs x s. x) sets-transform-number-reads.Post
+sets-transform-number κs arguments x y s t p q = p ∙ sym q
+
+pub sets-transform-id : OneAnswer 1 sets-transform-id-kinds.ps sets-transform-id-kinds.r (λ κs x s. x) sets-transform-id-reads.Post
+sets-transform-id κs arguments x y s t p q = p ∙ sym q
+
+pub sets-attributes-of : OneAnswer 1 sets-attributes-of-kinds.ps sets-attributes-of-kinds.r (λ κs x s. now x) sets-attributes-of-reads.Post
+sets-attributes-of κs arguments x y s t p q = p ∙ sym q
+
+pub offer-transform-bytes : OneAnswer 1 offer-transform-bytes-kinds.ps offer-transform-bytes-kinds.r (λ κs x s. now x) offer-transform-bytes-reads.Post
+offer-transform-bytes κs arguments x y s t p q = p ∙ sym q
+
+pub offer-check : OneAnswer 1 offer-check-kinds.ps offer-check-kinds.r (λ κs x s. x) offer-check-reads.Post
+offer-check κs arguments x y s t p q = p ∙ sym q
+
+pub message-read : OneAnswer 1 message-read-kinds.ps message-read-kinds.r (λ κs x s. x) message-read-reads.Post
+message-read κs arguments x y s t p q = p ∙ sym q
+
+pub message-payload-at : OneAnswer 1 message-payload-at-kinds.ps message-payload-at-kinds.r (λ κs x s. x) message-payload-at-reads.Post
+message-payload-at κs arguments x y s t p q = p ∙ sym q
+
+pub message-body-of : OneAnswer 1 message-body-of-kinds.ps message-body-of-kinds.r (λ κs x s. now x) message-body-of-reads.Post
+message-body-of κs arguments x y s t p q = p ∙ sym q
