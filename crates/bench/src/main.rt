@@ -2,7 +2,9 @@
 // stands in verbs.rt. Input of any length goes through four buffers that main makes once and lends to everything below.
 mod element;
 mod hex;
+mod identification;
 mod port;
+mod reading;
 mod say;
 mod verbs;
 mod words;

@@ -22,12 +22,17 @@ pub(crate) fn append(buffer: &mut [u8], at: usize, text: &[u8]) -> usize
     }
 }
 
-// Puts a space and a number in decimal.
-pub(crate) fn number(out: &mut [u8], said: usize, n: u64) -> usize {
+// Puts a number in decimal.
+pub(crate) fn digits(out: &mut [u8], said: usize, n: u64) -> usize {
     let mut digits = [0u8; 20];
     let count = io::decimal(n, &mut digits);
-    let said = append(out, said, b" ");
     append(out, said, &digits[..count])
+}
+
+// Puts a space and a number.
+pub(crate) fn number(out: &mut [u8], said: usize, n: u64) -> usize {
+    let said = append(out, said, b" ");
+    digits(out, said, n)
 }
 
 pub(crate) fn refused(out: &mut [u8], said: usize, n: u16) -> usize {

@@ -1,6 +1,8 @@
 // The table of verbs: the number of words on a line, the verb, and the room that answers it.
 use crate::element;
+use crate::identification;
 use crate::port;
+use crate::reading;
 use crate::say;
 use crate::say::append;
 use crate::words;
@@ -30,6 +32,12 @@ fn by_verb(line: &[u8], bytes: &mut [u8], out: &mut [u8], said: usize) -> usize 
     }
     if (words == 2) & equal(verb, b"der") {
         return element::answer(line, bytes, out, said);
+    }
+    if (words == 2) & equal(verb, b"read") {
+        return reading::answer(line, bytes, out, said);
+    }
+    if (words == 3) & equal(verb, b"identity") {
+        return identification::answer(line, bytes, out, said);
     }
     say::bad_line(out, said)
 }
