@@ -12,7 +12,7 @@ use Rattle.wire.specs.Wire.{numberAt}
 use Rattle.wire.specs.Tests.{if_then_else_}
 use Rattle.wire.proofs.Tests.{neither, by-test}
 use Rattle.wire.proofs.Laws.{number-one, number-join}
-use Rattle.attribute.specs.Attributes.{sentFixed, value, attributeType, attributeSize, outOfBounds, find, attribute, fixedWrong, durationWrong, attributeCode, attributesCode}
+use Rattle.attribute.specs.Attributes.{sentFixed, value, attributeType, attributeSize, outOfBounds, find, attribute, fixedWrong, durationWrong, attributeCode, attributesCode, countFrom}
 
 pub size-variable : (s : List ℕ) (b : Bool) (n : ℕ) → b ≡ sentFixed s → n ≡ numberAt 2 s 2 → b ≡ false → 4 + n ≡ attributeSize s
 unfolding attributeSize
@@ -82,6 +82,41 @@ module _ (left t : ℕ) (s : List ℕ) where
     pub find-on : (u ≡ t → ⊥) → (rest r : List ℕ) → rest ≡ drop n s → r ≡ find (left - 1) t rest → r ≡ find left t s
     find-on h rest r er e = rw (step, ne-eqb u t h, ← er) e
 
+find-none : (k t : ℕ) (s : List ℕ) → length s < 4 → [] ≡ find k t s
+unfolding find
+find-none zero t s h = refl
+find-none (suc k) t s h = rw (lt-ltb (length s) 4 h)
+
+pub search-within : (at n : ℕ) (s here : List ℕ) → here ≡ drop at s → 4 ≤ length here → n ≤ length here → at + n ≤ length s
+search-within at n s here eh long h = omega (arith, ap length eh ∙ length-drop at s)
+
+-- at a place in s, from which on the search goes the way it goes from the start
+module _ (left t at : ℕ) (s goal : List ℕ) (so-far : find left t (drop at s) ≡ goal) where
+  module _ (empty : List ℕ) (e : empty ≡ take 0 s) where
+    pub search-out : left ≡ 0 → empty ≡ goal
+    search-out z = find-out left t (drop at s) empty e z ∙ so-far
+
+    pub search-end : (left ≡ 0 → ⊥) → (here : List ℕ) → here ≡ drop at s → length here < 4 → empty ≡ goal
+    search-end may here eh h = find-end left t (drop at s) empty e may (rw (← eh) h) ∙ so-far
+
+  module _ (may : left ≡ 0 → ⊥) (here : List ℕ) (eh : here ≡ drop at s) (long : 4 ≤ length here) (n u : ℕ) (en : n ≡ attributeSize here) (eu : u ≡ attributeType here) where
+    from-here : find left t here ≡ goal
+    from-here = rw eh so-far
+
+    pub search-here : u ≡ t → (r : List ℕ) → r ≡ take n here → r ≡ goal
+    search-here h r e = find-here left t here may long n u en eu h r e ∙ from-here
+
+    module _ (other : u ≡ t → ⊥) where
+      pub search-past : length here < n → (empty : List ℕ) → empty ≡ take 0 s → empty ≡ goal
+      search-past h empty e =
+          let none : length (drop n here) < 4 = omega (arith, length-drop n here) in
+          e ∙ find-on left t here may long n u en eu other (drop n here) [] refl (find-none (left - 1) t (drop n here) none) ∙ from-here
+
+      pub search-on : find (left - 1) t (drop (at + n) s) ≡ goal
+      search-on =
+          let rest : drop (at + n) s ≡ drop n here = rw (eh, drop-drop n at s) refl in
+          find-on left t here may long n u en eu other (drop (at + n) s) (find (left - 1) t (drop (at + n) s)) rest refl ∙ from-here
+
 -- ---- one attribute
 
 module _ (exchange : ℕ) (before s : List ℕ) (b : Bool) (eb : b ≡ outOfBounds s) where
@@ -129,30 +164,68 @@ code-within exchange before s h = by-test (outOfBounds s)
     (λ w. absurd (let z : _≡_ {A = ℕ} 15 0 = (rw w at h) in omega arith))
     (λ w. ltb-false (length s) (attributeSize s) (neither (ltb (length s) 4) (ltb (length s) (attributeSize s)) w .1))
 
-pub attributes-within : (exchange at n code : ℕ) (all before s : List ℕ) → s ≡ drop at all → (length s ≡ 0 → ⊥) → code ≡ attributeCode exchange before s → code ≡ 0 → n ≡ attributeSize s → at + n ≤ length all
-attributes-within exchange at n code all before s es some ec fine en =
-    omega (arith, code-within exchange before s (sym ec ∙ fine), ap length es ∙ length-drop at all)
-
-module _ (left exchange : ℕ) (all : List ℕ) (at : ℕ) (s : List ℕ) (es : s ≡ drop at all) where
-  pub attributes-end : length s ≡ 0 → 0 ≡ attributesCode left exchange (take at all) (drop at all)
+-- at a place in all, from which on the reading goes the way it goes from the start
+module _ (left exchange at : ℕ) (all : List ℕ) (goal : ℕ) (so-far : attributesCode left exchange (take at all) (drop at all) ≡ goal) where
+  pub attributes-end : length all ≤ at → 0 ≡ goal
   unfolding attributesCode
-  attributes-end h = rw (← es) (go left)
+  attributes-end h = go left ∙ so-far
     where
-      go : (k : ℕ) → 0 ≡ attributesCode k exchange (take at all) s
-      go zero = rw (eq-eqb (length s) 0 h)
-      go (suc k) = rw (eq-eqb (length s) 0 h)
+      none : length (drop at all) ≡ 0
+      none = omega (arith, length-drop at all)
 
-  module _ (some : length s ≡ 0 → ⊥) where
-    pub attributes-many : left ≡ 0 → 15 ≡ attributesCode left exchange (take at all) (drop at all)
+      go : (k : ℕ) → 0 ≡ attributesCode k exchange (take at all) (drop at all)
+      go zero = rw (eq-eqb (length (drop at all)) 0 none)
+      go (suc k) = rw (eq-eqb (length (drop at all)) 0 none)
+
+  module _ (more : at < length all) where
+    some : length (drop at all) ≡ 0 → ⊥
+    some z = omega (arith, length-drop at all)
+
+    pub attributes-many : left ≡ 0 → 15 ≡ goal
     unfolding attributesCode
-    attributes-many z = rw (← es, z, ne-eqb (length s) 0 some)
+    attributes-many z = (rw (z, ne-eqb (length (drop at all)) 0 some) refl) ∙ so-far
 
-    module _ (may : left ≡ 0 → ⊥) (before : List ℕ) (code : ℕ) (eb : before ≡ take at all) (ec : code ≡ attributeCode exchange before s) where
-      pub attributes-refused : (code ≡ 0 → ⊥) → code ≡ attributesCode left exchange (take at all) (drop at all)
-      attributes-refused h = rw (← es, ← eb, attributes-step left exchange before s may, ne-eqb (length s) 0 some, ← ec, ne-eqb code 0 h)
+    module _ (may : left ≡ 0 → ⊥) (before s : List ℕ) (eb : before ≡ take at all) (es : s ≡ drop at all) (code : ℕ) (ec : code ≡ attributeCode exchange before s) where
+      turn : goal ≡ (if not (eqb code 0) then code else attributesCode (left - 1) exchange (before ++ take (attributeSize s) s) (drop (attributeSize s) s))
+      turn = rw (← so-far, attributes-step left exchange (take at all) (drop at all) may, ne-eqb (length (drop at all)) 0 some, ← es, ← eb, ← ec)
+
+      pub attributes-refused : (code ≡ 0 → ⊥) → code ≡ goal
+      attributes-refused h = rw (turn, ne-eqb code 0 h)
 
       module _ (fine : code ≡ 0) (n : ℕ) (en : n ≡ attributeSize s) where
-        pub attributes-on : (r : ℕ) → r ≡ attributesCode (left - 1) exchange (take (at + n) all) (drop (at + n) all) → r ≡ attributesCode left exchange (take at all) (drop at all)
-        attributes-on r e =
-            let here = rw (take-add at n all, ← drop-drop n at all, ← es, ← eb) at e in
-            rw (← es, ← eb, attributes-step left exchange before s may, ne-eqb (length s) 0 some, ← ec, fine, ← en) here
+        pub attributes-within : at + n ≤ length all
+        attributes-within = omega (arith, code-within exchange before s (sym ec ∙ fine), ap length es ∙ length-drop at all)
+
+        pub attributes-on : attributesCode (left - 1) exchange (take (at + n) all) (drop (at + n) all) ≡ goal
+        attributes-on = rw (turn, fine, ← en, take-add at n all, ← drop-drop n at all, ← es, ← eb)
+
+-- ---- how many
+
+count-step : (left : ℕ) (s : List ℕ) → (left ≡ 0 → ⊥) → countFrom left s ≡ (if eqb (length s) 0 then 0 else 1 + countFrom (left - 1) (drop (attributeSize s) s))
+unfolding countFrom
+count-step zero s h = absurd (h refl)
+count-step (suc left) s h = let i : suc left - 1 ≡ left = omega arith in rw i
+
+if-most : (b : Bool) (n m : ℕ) → n ≤ m → (if b then 0 else 1 + n) ≤ suc m
+if-most true n m h = omega arith
+if-most false n m h = omega arith
+
+count-most : (left : ℕ) (s : List ℕ) → countFrom left s ≤ left
+unfolding countFrom
+count-most zero s = omega arith
+count-most (suc left) s = if-most (eqb (length s) 0) (countFrom left (drop (attributeSize s) s)) left (count-most left (drop (attributeSize s) s))
+
+pub count-below : (left n : ℕ) (s : List ℕ) → n ≡ countFrom left s → n ≤ left
+count-below left n s e = omega (arith, count-most left s)
+
+module _ (left : ℕ) (s : List ℕ) where
+  pub count-out : left ≡ 0 → 0 ≡ countFrom left s
+  unfolding countFrom
+  count-out z = rw z
+
+  module _ (may : left ≡ 0 → ⊥) where
+    pub count-end : length s ≡ 0 → 0 ≡ countFrom left s
+    count-end h = rw (count-step left s may, eq-eqb (length s) 0 h)
+
+    pub count-on : (length s ≡ 0 → ⊥) → (m n : ℕ) (rest : List ℕ) → m ≡ attributeSize s → rest ≡ drop m s → n ≡ countFrom (left - 1) rest → 1 + n ≡ countFrom left s
+    count-on h m n rest em er e = rw (count-step left s may, ne-eqb (length s) 0 h, ← em, ← er, ← e)

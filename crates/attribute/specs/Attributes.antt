@@ -75,3 +75,12 @@ attributesLawful exchange s = attributesCode 16 exchange [] s
 -- the number that an attribute's value spells; of a value over 4 bytes, which no rule asks for, the first 4
 unfoldable pub value : List ℕ → ℕ
 value a = if sentFixed a then numberAt 2 a 2 else numberAt (min (numberAt 2 a 2) 4) a 4
+
+-- how many attributes s has, at most left
+unfoldable pub countFrom : ℕ → List ℕ → ℕ
+countFrom zero s = 0
+countFrom (suc left) s = if eqb (length s) 0 then 0 else 1 + countFrom left (drop (attributeSize s) s)
+
+-- how many attributes a transform has; lawful ones are at most 16
+unfoldable pub attributeCount : List ℕ → ℕ
+attributeCount s = countFrom 16 s

@@ -5,8 +5,7 @@ use wire::be32;
 use wire::byte;
 use wire::front;
 ghost use mathlib.Core.Path.{_≡_};
-ghost use lib.ListN.{take, drop};
-ghost use Rattle.attribute.specs.Attributes.{sentFixed, attributeType, attributeSize, outOfBounds, find, attribute, mustBeFixed, fixedWrong, isDuration, durationWrong, attributeCode, attributesCode, attributesLawful, value};
+ghost use Rattle.attribute.specs.Attributes.{sentFixed, attributeType, attributeSize, outOfBounds, find, attribute, mustBeFixed, fixedWrong, isDuration, durationWrong, attributeCode, attributesLawful, value, countFrom, attributeCount};
 
 // Whether the attribute has its value in its own four bytes.
 pub fn sent_fixed(s: &[u8]) -> bool
@@ -37,21 +36,27 @@ fn out_of_bounds(s: &[u8]) -> bool
     (s.len() < 4) | (s.len() < attribute_size(s))
 }
 
-fn find(left: u8, kind: u16, s: &[u8]) -> &[u8]
-    ensures { λ r. ⌜ now r ≡ find left kind (now (s .entry)) ⌝ }
+fn find(most: u8, kind: u16, s: &[u8]) -> &[u8]
+    ensures { λ r. ⌜ now r ≡ find most kind (now (s .entry)) ⌝ }
 {
-    if left == 0 {
-        return front(s, 0);
+    let mut left = most;
+    let mut at: usize = 0;
+    while left != 0 {
+        let here = after(s, at);
+        if here.len() < 4 {
+            return front(s, 0);
+        }
+        let n = attribute_size(here);
+        if attribute_type(here) == kind {
+            return front(here, n);
+        }
+        if here.len() < n {
+            return front(s, 0);
+        }
+        at += n;
+        left -= 1;
     }
-    if s.len() < 4 {
-        return front(s, 0);
-    }
-    let n = attribute_size(s);
-    if attribute_type(s) == kind {
-        front(s, n)
-    } else {
-        find(left - 1, kind, after(s, n))
-    }
+    front(s, 0)
 }
 
 // The attribute of a type in a transform's attributes; no bytes where there is none.
@@ -107,29 +112,25 @@ fn attribute_code(exchange: u8, before: &[u8], s: &[u8]) -> u16
     if duration_wrong(exchange, s) { 13 } else { 0 }
 }
 
-// The attributes from a place on, of which so many may come.
-fn attributes_code(left: u8, exchange: u8, all: &[u8], at: usize) -> u16
-    ensures { λ r. ⌜ r ≡ attributesCode left exchange (take at (now (all .entry))) (drop at (now (all .entry))) ⌝ }
-{
-    let s = after(all, at);
-    if s.len() == 0 {
-        return 0;
-    }
-    if left == 0 {
-        return 15;
-    }
-    let code = attribute_code(exchange, front(all, at), s);
-    if code != 0 {
-        return code;
-    }
-    attributes_code(left - 1, exchange, all, at + attribute_size(s))
-}
-
 // 0 where a transform's attributes are lawful in the exchange, else the refusal.
 pub fn attributes_lawful(exchange: u8, s: &[u8]) -> u16
     ensures { λ r. ⌜ r ≡ attributesLawful exchange (now (s .entry)) ⌝ }
 {
-    attributes_code(16, exchange, s, 0)
+    let mut left: u8 = 16;
+    let mut at: usize = 0;
+    while at < s.len() {
+        if left == 0 {
+            return 15;
+        }
+        let here = after(s, at);
+        let code = attribute_code(exchange, front(s, at), here);
+        if code != 0 {
+            return code;
+        }
+        at += attribute_size(here);
+        left -= 1;
+    }
+    0
 }
 
 // The number that an attribute's value spells, of 4 bytes at most.
@@ -147,4 +148,23 @@ pub fn value(a: &[u8]) -> u32
         3 => be16(a, 4) as u32 * 256 + byte(a, 6) as u32,
         _ => be32(a, 4),
     }
+}
+
+fn count_from(left: u8, s: &[u8]) -> u8
+    ensures { λ r. ⌜ r ≡ countFrom left (now (s .entry)) ⌝ }
+{
+    if left == 0 {
+        return 0;
+    }
+    if s.len() == 0 {
+        return 0;
+    }
+    1 + count_from(left - 1, after(s, attribute_size(s)))
+}
+
+// How many attributes a transform has.
+pub fn attribute_count(s: &[u8]) -> u8
+    ensures { λ r. ⌜ r ≡ attributeCount (now (s .entry)) ⌝ }
+{
+    count_from(16, s)
 }
