@@ -1,0 +1,138 @@
+-- The table, document 01, "Sequence numbers": "64 entries, keyed by IPv4 destination, protocol and SPI". A room is six words: the mark (0
+-- where the room is free, else the protocol plus 1), destination, SPI, highest, window, sent. A call gives its answer and the table after it.
+use Prim.Native.Nat.{ℕ, zero, suc, _+_, _*_}
+use mathlib.Core.List.{List, [], _∷_}
+use mathlib.Core.Bool.{Bool, not, _&&_}
+use lib.ListN.{getD, set, replicate}
+use lib.Dec.{ltb, leb, eqb}
+use Rattle.wire.specs.Tests.{if_then_else_}
+use Rattle.wire.specs.Answer.{Answer}
+use Rattle.sequence.specs.declared.receive.Verdict.{Verdict}
+use Rattle.sequence.specs.declared.receive.Verdict.the-variants as Y
+use Rattle.sequence.specs.declared.receive.Judged.{Judged}
+use Rattle.sequence.specs.declared.packets.Packet.{Packet}
+use Rattle.sequence.specs.declared.packets.Packet.the-variants as P
+use Rattle.sequence.specs.declared.table.Key.{Key}
+use Rattle.sequence.specs.declared.table.Entry.{Entry}
+use Rattle.sequence.specs.declared.table.Outcome.{Outcome}
+use Rattle.sequence.specs.declared.table.Outcome.the-variants as O
+use Rattle.sequence.specs.declared.table.Sending.{Sending}
+use Rattle.sequence.specs.declared.table.Sending.the-variants as S
+use Rattle.sequence.specs.declared.table.Counted.{Counted}
+use Rattle.sequence.specs.declared.table.Counted.the-variants as C
+use Rattle.sequence.specs.Receive.{fresh, judged, lossLine}
+use Rattle.sequence.specs.Packets.{known, read}
+
+-- ---- rooms
+
+abbrev pub rooms : ℕ
+rooms = 64
+
+abbrev pub words : ℕ
+words = 6
+
+-- the table with no entry
+abbrev pub empty : List ℕ
+empty = replicate (rooms * words) 0
+
+-- a room holds a life of the key
+unfoldable pub holds : List ℕ → Key → ℕ → Bool
+holds t key i =
+    eqb (getD t (i * words + 2) 0) (key .spi)
+    && (eqb (getD t (i * words) 0) (key .protocol + 1) && eqb (getD t (i * words + 1) 0) (key .destination))
+
+unfoldable pub isFree : List ℕ → ℕ → Bool
+isFree t i = eqb (getD t (i * words) 0) 0
+
+-- the first place from i on that passes the test, so many are looked at; the one behind them where none passes
+unfoldable pub first : (ℕ → Bool) → ℕ → ℕ → ℕ
+first test zero i = i
+first test (suc left) i = if test i then i else first test left (i + 1)
+
+-- the key's room, 64 where it has none
+unfoldable pub find : List ℕ → Key → ℕ
+find t key = first (holds t key) rooms 0
+
+unfoldable pub free : List ℕ → ℕ
+free t = first (isFree t) rooms 0
+
+unfoldable pub entryAt : List ℕ → ℕ → Entry
+entryAt t i = record { receive = record { highest = getD t (i * words + 3) 0; window = getD t (i * words + 4) 0 }; sent = getD t (i * words + 5) 0 }
+
+unfoldable pub putEntry : List ℕ → ℕ → Entry → List ℕ
+putEntry t i e = set (set (set t (i * words + 3) (e .receive .highest)) (i * words + 4) (e .receive .window)) (i * words + 5) (e .sent)
+
+unfoldable pub putKey : List ℕ → ℕ → Key → List ℕ
+putKey t i key = set (set (set t (i * words) (key .protocol + 1)) (i * words + 1) (key .destination)) (i * words + 2) (key .spi)
+
+unfoldable pub emptied : List ℕ → ℕ → List ℕ
+emptied t i = set t (i * words) 0
+
+-- a life's entry at its beginning
+abbrev pub newEntry : Entry
+newEntry = record { receive = fresh; sent = 0 }
+
+-- ---- calls
+
+-- "Adding: protocol 10, SPI below 256 11, present 8200, full 8199"; "Freed room is used."
+unfoldable pub added : List ℕ → Key → Outcome × List ℕ
+added t key =
+    if not (known (key .protocol)) then (O.Refused 10, t)
+    else if ltb (key .spi) 256 then (O.Refused 11, t)
+    else if ltb (find t key) rooms then (O.Refused 8200, t)
+    else if leb rooms (free t) then (O.Refused 8199, t)
+    else (O.Done, putEntry (putKey t (free t) key) (free t) newEntry)
+
+-- "any other call on an absent key 11"
+unfoldable pub removed : List ℕ → Key → Outcome × List ℕ
+removed t key =
+    if leb rooms (find t key) then (O.Refused 11, t)
+    else (O.Done, emptied t (find t key))
+
+-- a step of the record in a room
+unfoldable pub judgedAt : List ℕ → ℕ → Judged → Verdict × List ℕ
+judgedAt t i j = (j .verdict, putEntry t i (record { receive = j .receive; sent = entryAt t i .sent }))
+
+unfoldable pub packetRead : List ℕ → ℕ → ℕ → Bool → Packet → Verdict × List ℕ
+packetRead t destination protocol whole (P.Refused number) = (Y.Refused number, t)
+packetRead t destination protocol whole (P.Read spi number) =
+    at (find t (record { destination = destination; protocol = protocol; spi = spi }))
+  where
+    at : ℕ → Verdict × List ℕ
+    at i =
+        if leb rooms i then (Y.Refused 11, t)
+        else judgedAt t i (judged (entryAt t i .receive) number whole)
+
+-- "A packet's protocol not 2 or 3: 10. AH .. ESP .. else 16. Then entry 11." Then the step.
+unfoldable pub packet : List ℕ → ℕ → ℕ → Bool → List ℕ → Verdict × List ℕ
+packet t destination protocol whole s = packetRead t destination protocol whole (read protocol s)
+
+-- "Sending counts from 1; after 4,294,967,295: 8198"
+unfoldable pub handedOut : List ℕ → ℕ → Entry → Sending × List ℕ
+handedOut t i e =
+    if leb 4294967295 (e .sent) then (S.Refused 8198, t)
+    else (S.Number (e .sent + 1), putEntry t i (record { receive = e .receive; sent = e .sent + 1 }))
+
+unfoldable pub sent : List ℕ → Key → Sending × List ℕ
+sent t key =
+    if leb rooms (find t key) then (S.Refused 11, t)
+    else handedOut t (find t key) (entryAt t (find t key))
+
+unfoldable pub loss : List ℕ → Key → Counted
+loss t key =
+    if leb rooms (find t key) then C.Refused 11
+    else C.Line (lossLine (entryAt t (find t key) .receive))
+
+-- ---- the paper's number and values for each case
+
+unfoldable pub outcome : Outcome → Answer
+outcome O.Done = record { number = 0; values = 1 ∷ [] }
+outcome (O.Refused number) = record { number = number; values = [] }
+
+unfoldable pub sending : Sending → Answer
+sending (S.Number n) = record { number = 0; values = n ∷ [] }
+sending (S.Refused number) = record { number = number; values = [] }
+
+unfoldable pub counted : Counted → Answer
+counted (C.Line l) = record { number = 0; values = l .highest ∷ l .span ∷ l .count ∷ [] }
+counted (C.Refused number) = record { number = number; values = [] }
