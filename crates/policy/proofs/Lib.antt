@@ -1,0 +1,4 @@
+pub mod Laws
+mod BookWays
+mod SuitWays
+mod ChoiceWays

@@ -1,0 +1,13 @@
+use Rattle.policy.specs.Book.{quickSeconds}
+use borrow.Author.Needs.{needs}
+use Rattle.policy.proofs.lines.quick_seconds.Statement.{statement}
+use Rattle.policy.proofs.lines.quick_seconds.Tie as tie
+
+pub quick-seconds-spec : {M : Type 1} → statement M
+unfolding quickSeconds
+quick-seconds-spec =
+    tie.close (tie.spec (λ c κs. search needs)
+    (λ c. search needs)
+    (λ c. search needs)
+    (λ c κs. search needs)
+    (λ c. cc))
