@@ -1,0 +1,66 @@
+-- Sequence numbers, in the demands' words. The definitions are those of History; the proofs stand in the other Sequence files.
+use Prim.Native.Nat.{ℕ, _<_}
+use mathlib.Core.Path.{_≡_, ap}
+use mathlib.Core.Bool.{Bool, false}
+use mathlib.Core.List.{List, [], _∷_}
+use lib.ListN.{length}
+use Rattle.sequence.specs.declared.packets.Packet.the-variants.{Read}
+use Rattle.sequence.specs.declared.table.Key.{Key}
+use Rattle.sequence.specs.declared.table.Outcome.the-variants.{Done}
+use Rattle.sequence.specs.Receive.{fresh}
+use Rattle.sequence.specs.Packets.{read}
+use Rattle.sequence.specs.Table.{empty, find, entryAt, added}
+use Rattle.wire.specs.Answer.{done}
+use Rattle.promises.specs.History.{Call, shows, sends, asks, isDone, keyOf, accepted, handed, rightNumber, answered, answeredAll, rightAll, Distinct, countdown, isAdding, Carries, tableVerdicts, lentVerdicts}
+use Rattle.promises.specs.SequenceRuns as Runs
+use Rattle.promises.specs.SequenceKeys as Keys
+
+-- For every sequence of adds, removes, packets, sends and queries from an empty table, every answer is the one worked out afresh from the
+-- list of what came before.
+pub answers-right : (calls : List Call) → answeredAll empty [] calls ≡ rightAll [] calls
+answers-right = Runs.answers-right
+
+-- No sequence number is accepted twice in one life of an SA.
+pub once-only : (calls : List Call) (key : Key) → Distinct (accepted key (answeredAll empty [] calls))
+once-only = Runs.once-only
+
+-- The numbers handed out for sending in one life are 1, 2, 3, .. and never repeat.
+pub sending-counts : (calls : List Call) (key : Key) → handed key (answeredAll empty [] calls) ≡ countdown (length (handed key (answeredAll empty [] calls)))
+sending-counts = Runs.sending-counts
+
+pub sending-once : (calls : List Call) (key : Key) → Distinct (handed key (answeredAll empty [] calls))
+sending-once = Runs.sending-once
+
+-- A new life of a key starts empty, whatever the table's words were: its loss line, its first number for sending, its packets.
+module _ (t u : List ℕ) (key : Key) (long : length t ≡ 384) (adding : added t key ≡ (Done, u)) where
+  pub new-loss : answered u (asks key) .0 ≡ done (0 ∷ 0 ∷ 0 ∷ [])
+  new-loss = Keys.new-loss t u key long adding
+
+  pub new-sending : answered u (sends key) .0 ≡ done (1 ∷ [])
+  new-sending = Keys.new-sending t u key long adding
+
+  pub new-packet : (whole : Bool) (s : List ℕ) (number : ℕ) → read (key .protocol) s ≡ Read (key .spi) number →
+      answered u (shows (key .destination) (key .protocol) whole s) .0 ≡ rightNumber [] number whole
+  new-packet = Keys.new-packet t u key long adding
+
+-- A call on one key changes nothing that can be asked of another, whatever the table's words are. (Adding another key may find the table
+-- full: that is asked of the table.)
+pub other-keys : (t : List ℕ) → length t ≡ 384 → (c asked : Call) → (keyOf c ≡ keyOf asked → ⊥) → isAdding asked ≡ false →
+    answered (answered t c .1) asked .0 ≡ answered t asked .0
+other-keys = Keys.other-keys
+
+-- The lent record and the table give the same verdicts: from the entry of any life on, and from a life's beginning.
+pub lent-same : (key : Key) (packets : List (Bool × List ℕ)) (numbers : List (Bool × ℕ)) → Carries key packets numbers →
+    (t : List ℕ) → length t ≡ 384 → find t key < 64 → tableVerdicts t key packets ≡ lentVerdicts (entryAt t (find t key) .receive) numbers
+lent-same = Keys.lent-same
+
+pub lent-from-fresh : (key : Key) (packets : List (Bool × List ℕ)) (numbers : List (Bool × ℕ)) → Carries key packets numbers →
+    (t u : List ℕ) → length t ≡ 384 → added t key ≡ (Done, u) → tableVerdicts u key packets ≡ lentVerdicts fresh numbers
+lent-from-fresh = Keys.lent-from-fresh
+
+-- A refusal changes nothing, and the same call again is refused again: a sending counter at its end stays there.
+pub refused-nothing : (t : List ℕ) (c : Call) → isDone (answered t c .0) ≡ false → answered t c .1 ≡ t
+refused-nothing = Keys.refused-nothing
+
+pub refused-again : (t : List ℕ) (c : Call) → isDone (answered t c .0) ≡ false → answered (answered t c .1) c ≡ answered t c
+refused-again t c h = ap (λ (u : List ℕ). answered u c) (Keys.refused-nothing t c h)
