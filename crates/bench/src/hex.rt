@@ -11,7 +11,7 @@ pub(crate) enum Decoded {
 }
 
 // The value of a digit; 16 for any other byte.
-fn value(digit: u8) -> u8
+pub(crate) fn value(digit: u8) -> u8
     ensures decimal { λ r. ⌜ (48 ≤ digit → digit ≤ 57 → r ≡ digit - 48) ⌝ }
     ensures lower { λ r. ⌜ (97 ≤ digit → digit ≤ 102 → r ≡ digit - 87) ⌝ }
     ensures upper { λ r. ⌜ (65 ≤ digit → digit ≤ 70 → r ≡ digit - 55) ⌝ }

@@ -1,8 +1,14 @@
 // Reads lines from standard input and writes one line of answer to standard output for each, in order. What the lines are
-// stands in verbs.rt. Input of any length goes through four buffers that main makes once and lends to everything below.
+// stands in verbs.rt. Input of any length goes through four buffers that main makes once and lends to everything below, as
+// it does the table of SA entries.
+mod choosing;
 mod element;
 mod hex;
 mod identification;
+mod integrity;
+mod lent;
+mod lives;
+mod number;
 mod port;
 mod reading;
 mod say;
@@ -12,14 +18,19 @@ mod words;
 use libc::STDIN_FILENO;
 use libc::STDOUT_FILENO;
 use say::append;
+use sequence::receive::Receive;
+use sequence::receive::fresh;
+use sequence::table::Table;
 use wire::after;
 use wire::front;
 
-// What goes from line to line: how far the line and the output are filled, and whether to read on.
+// What goes from line to line: how far the line and the output are filled, whether to read on, and the record of the lines
+// that begin with `lent`.
 struct State {
     line: usize,
     said: usize,
     going: bool,
+    lent: Receive,
 }
 
 fn main() {
@@ -29,23 +40,26 @@ fn main() {
     // Room for the bytes of a whole line of hex.
     let mut bytes = [0u8; 32768];
     let mut out = io::large_buffer();
-    run(&mut input, &mut line, &mut bytes, &mut out);
+    // The empty table.
+    let mut lives = [0u64; 384];
+    run(&mut input, &mut line, &mut lives, &mut bytes, &mut out);
 }
 
 // Answers all of the input. What is left of a line when the input ends is the last line.
-fn run(input: &mut [u8], line: &mut [u8], bytes: &mut [u8], out: &mut [u8]) {
+fn run(input: &mut [u8], line: &mut [u8], lives: &mut Table, bytes: &mut [u8], out: &mut [u8]) {
     let mut state = State {
         line: 0,
         said: 0,
         going: true,
+        lent: fresh(),
     };
     // A proved loop has to end: no run uses this number up.
     let mut turns = u64::MAX;
     while turns > 0 && state.going {
-        state = read_once(input, line, bytes, out, state);
+        state = read_once(input, line, lives, bytes, out, state);
         turns -= 1;
     }
-    let last = end_line(line, bytes, out, state);
+    let last = end_line(line, lives, bytes, out, state);
     flush(out, last);
 }
 
@@ -53,6 +67,7 @@ fn run(input: &mut [u8], line: &mut [u8], bytes: &mut [u8], out: &mut [u8]) {
 fn read_once(
     input: &mut [u8],
     line: &mut [u8],
+    lives: &mut Table,
     bytes: &mut [u8],
     out: &mut [u8],
     mut state: State,
@@ -63,17 +78,24 @@ fn read_once(
         state.going = false;
         return state;
     }
-    let state = take(front(input, n), line, bytes, out, state);
+    let state = take(front(input, n), line, lives, bytes, out, state);
     flush(out, state)
 }
 
 // Takes a part of the input, line by line.
-fn take(part: &[u8], line: &mut [u8], bytes: &mut [u8], out: &mut [u8], mut state: State) -> State {
+fn take(
+    part: &[u8],
+    line: &mut [u8],
+    lives: &mut Table,
+    bytes: &mut [u8],
+    out: &mut [u8],
+    mut state: State,
+) -> State {
     let mut at = 0;
     while at < part.len() && state.going {
         let end = words::find(part, at, b'\n');
         let piece = after(front(part, end), at);
-        state = add(piece, end < part.len(), line, bytes, out, state);
+        state = add(piece, end < part.len(), line, lives, bytes, out, state);
         at = end + 1;
     }
     state
@@ -84,13 +106,14 @@ fn add(
     piece: &[u8],
     ends: bool,
     line: &mut [u8],
+    lives: &mut Table,
     bytes: &mut [u8],
     out: &mut [u8],
     mut state: State,
 ) -> State {
     state.line = append(line, state.line, piece);
     if ends {
-        end_line(line, bytes, out, state)
+        end_line(line, lives, bytes, out, state)
     } else {
         state
     }
@@ -98,8 +121,14 @@ fn add(
 
 // Answers the line that is kept and begins the next one. The output is written when it is more than half full, so half of
 // it is room for an answer.
-fn end_line(line: &[u8], bytes: &mut [u8], out: &mut [u8], mut state: State) -> State {
-    state.said = verbs::answer(front(line, state.line), bytes, out, state.said);
+fn end_line(
+    line: &[u8],
+    lives: &mut Table,
+    bytes: &mut [u8],
+    out: &mut [u8],
+    state: State,
+) -> State {
+    let mut state = verbs::answer(front(line, state.line), lives, bytes, out, state);
     state.line = 0;
     if out.len() / 2 < state.said {
         flush(out, state)

@@ -1,5 +1,7 @@
 // Filling a buffer: each function puts something at a place and gives back the place behind it. The line end of an answer
 // is put in verbs.rt, once for all.
+use sequence::receive::LossLine;
+use sequence::receive::Verdict;
 use wire::put_bytes;
 ghost use mathlib.Core.Path.{_≡_};
 ghost use Prim.Native.Nat.{_+_, min};
@@ -42,4 +44,18 @@ pub(crate) fn refused(out: &mut [u8], said: usize, n: u16) -> usize {
 
 pub(crate) fn bad_line(out: &mut [u8], said: usize) -> usize {
     append(out, said, b"bad line")
+}
+
+pub(crate) fn verdict(out: &mut [u8], said: usize, told: Verdict) -> usize {
+    match told {
+        Verdict::Accepted => append(out, said, b"accepted"),
+        Verdict::Refused(n) => refused(out, said, n),
+    }
+}
+
+pub(crate) fn loss_line(out: &mut [u8], said: usize, l: LossLine) -> usize {
+    let said = append(out, said, b"loss");
+    let said = number(out, said, l.highest);
+    let said = number(out, said, l.span);
+    number(out, said, l.count as u64)
 }

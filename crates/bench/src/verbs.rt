@@ -1,11 +1,16 @@
 // The table of verbs: the number of words on a line, the verb, and the room that answers it.
+use crate::State;
+use crate::choosing;
 use crate::element;
 use crate::identification;
+use crate::lent;
+use crate::lives;
 use crate::port;
 use crate::reading;
 use crate::say;
 use crate::say::append;
 use crate::words;
+use sequence::table::Table;
 use wire::byte;
 use wire::equal;
 
@@ -13,18 +18,53 @@ use wire::equal;
 const LONGEST: usize = 65535;
 
 // Answers a line, with a line end. An empty line and one that begins with # get no answer.
-pub(crate) fn answer(line: &[u8], bytes: &mut [u8], out: &mut [u8], said: usize) -> usize {
+pub(crate) fn answer(
+    line: &[u8],
+    lives: &mut Table,
+    bytes: &mut [u8],
+    out: &mut [u8],
+    state: State,
+) -> State {
     if line.len() == 0 || byte(line, 0) == b'#' {
-        return said;
+        return state;
     }
-    let said = by_verb(line, bytes, out, said);
-    append(out, said, b"\n")
+    let mut state = by_verb(line, lives, bytes, out, state);
+    state.said = append(out, state.said, b"\n");
+    state
 }
 
-fn by_verb(line: &[u8], bytes: &mut [u8], out: &mut [u8], said: usize) -> usize {
+// One family of verbs after another: each passes on what it does not know, and the last calls it a bad line.
+fn by_verb(
+    line: &[u8],
+    lives: &mut Table,
+    bytes: &mut [u8],
+    out: &mut [u8],
+    mut state: State,
+) -> State {
     if LONGEST < line.len() {
-        return say::bad_line(out, said);
+        state.said = say::bad_line(out, state.said);
+        return state;
     }
+    let words = words::count(line);
+    let verb = words::nth(line, 0);
+    if (words == 2) & equal(verb, b"lent") {
+        return lent::new_or_loss(line, out, state);
+    }
+    if (words == 3) & equal(verb, b"lent") {
+        return lent::step(line, out, state);
+    }
+    state.said = reading_verbs(line, lives, bytes, out, state.said);
+    state
+}
+
+// Lines that are answered from their bytes alone, and after them the next family.
+fn reading_verbs(
+    line: &[u8],
+    lives: &mut Table,
+    bytes: &mut [u8],
+    out: &mut [u8],
+    said: usize,
+) -> usize {
     let words = words::count(line);
     let verb = words::nth(line, 0);
     if (words == 2) & equal(verb, b"port") {
@@ -38,6 +78,40 @@ fn by_verb(line: &[u8], bytes: &mut [u8], out: &mut [u8], said: usize) -> usize 
     }
     if (words == 3) & equal(verb, b"identity") {
         return identification::answer(line, bytes, out, said);
+    }
+    if (words == 2) & equal(verb, b"book") {
+        return choosing::book(line, bytes, out, said);
+    }
+    if (words == 3) & equal(verb, b"choose") {
+        return choosing::choose(line, bytes, out, said);
+    }
+    table_verbs(line, lives, bytes, out, said)
+}
+
+// Lines on the table of SA entries.
+fn table_verbs(
+    line: &[u8],
+    lives: &mut Table,
+    bytes: &mut [u8],
+    out: &mut [u8],
+    said: usize,
+) -> usize {
+    let words = words::count(line);
+    let verb = words::nth(line, 0);
+    if (words == 4) & equal(verb, b"add") {
+        return lives::add(line, lives, out, said);
+    }
+    if (words == 4) & equal(verb, b"remove") {
+        return lives::remove(line, lives, out, said);
+    }
+    if (words == 5) & equal(verb, b"packet") {
+        return lives::packet(line, lives, bytes, out, said);
+    }
+    if (words == 4) & equal(verb, b"send") {
+        return lives::send(line, lives, out, said);
+    }
+    if (words == 4) & equal(verb, b"loss") {
+        return lives::loss(line, lives, out, said);
     }
     say::bad_line(out, said)
 }

@@ -1,8 +1,14 @@
 // The functions that another language calls: thin, on bytes and numbers; an answer of several parts is packed in one number.
 use message::Message;
+use sequence::receive::Receive;
+use sequence::receive::Verdict;
+use sequence::receive::step_in_place;
+use sequence::table::Table;
 ghost use mathlib.Core.Path.{_≡_};
 ghost use Rattle.message.specs.Message.{message};
-ghost use Rattle.exports.specs.Exports.{packed};
+ghost use Rattle.sequence.specs.Receive.{judged};
+ghost use Rattle.sequence.specs.Table.{packet};
+ghost use Rattle.exports.specs.Exports.{packed, verdictPacked, judgedPacked, packetPacked};
 
 // Reads a message: the refusal number, or 65,536 + 256 times the exchange + the count of payloads.
 #[no_mangle]
@@ -14,4 +20,38 @@ pub extern "C" fn tallowbrim_read(m: &[u8]) -> u32
         Message::Refused(number) => number as u32,
         Message::Read { exchange, count } => 65536 + 256 * exchange as u32 + count as u32,
     }
+}
+
+// A verdict's number, the same for the table and for a record by itself.
+fn verdict_packed(v: Verdict) -> u32
+    ensures { λ r. ⌜ r ≡ verdictPacked v ⌝ }
+{
+    match v {
+        Verdict::Accepted => 65536,
+        Verdict::Refused(number) => number as u32,
+    }
+}
+
+// A packet into a table: the refusal number, or 65,536 where it is accepted.
+#[no_mangle]
+pub extern "C" fn tallowbrim_packet(
+    table: &mut Table,
+    destination: u32,
+    protocol: u8,
+    whole: bool,
+    s: &[u8],
+) -> u32
+    ensures { λ r. ⌜ packetPacked (packet (now (table .entry)) destination protocol whole (now (s .entry))) ≡ (r, now (table .exit)) ⌝ }
+{
+    let verdict = sequence::table::packet(table, destination, protocol, whole, s);
+    verdict_packed(verdict)
+}
+
+// A step of a record where the caller's record stands: the refusal number, or 65,536 where the number is accepted.
+#[no_mangle]
+pub extern "C" fn tallowbrim_step(receive: &mut Receive, number: u32, whole: bool) -> u32
+    ensures { λ r. ⌜ judgedPacked (judged (now (receive .entry)) number whole) ≡ (r, now (receive .exit)) ⌝ }
+{
+    let verdict = step_in_place(receive, number, whole);
+    verdict_packed(verdict)
 }

@@ -104,6 +104,10 @@ use Rattle.attribute.proofs.attribute_count.Kinds as attribute-attribute-count-
 use Rattle.attribute.proofs.attribute_count.Reads as attribute-attribute-count-reads
 use Rattle.exports.proofs.tallowbrim_read.Kinds as exports-tallowbrim-read-kinds
 use Rattle.exports.proofs.tallowbrim_read.Reads as exports-tallowbrim-read-reads
+use Rattle.exports.proofs.tallowbrim_packet.Kinds as exports-tallowbrim-packet-kinds
+use Rattle.exports.proofs.tallowbrim_packet.Reads as exports-tallowbrim-packet-reads
+use Rattle.exports.proofs.tallowbrim_step as exports-tallowbrim-step-contract
+use Rattle.exports.specs.Exports.{judgedPacked}
 use Rattle.sequence.proofs.packets.known.Kinds as sequence-known-kinds
 use Rattle.sequence.proofs.packets.known.Reads as sequence-known-reads
 use Rattle.sequence.proofs.packets.read.Kinds as sequence-read-kinds
@@ -321,3 +325,19 @@ sequence-step-in-place before number whole r q x y p e = sym p ∙ e
 
 pub sequence-step-lent : (before : Receive) (number : ℕ) (whole : Bool) (x y : Judged) → x ≡ judged before number whole → y ≡ judged before number whole → x ≡ y
 sequence-step-lent before number whole x y p q = p ∙ sym q
+
+pub exports-tallowbrim-packet : OneAnswer 2 exports-tallowbrim-packet-kinds.ps exports-tallowbrim-packet-kinds.r {A = ℕ × List ℕ} (λ κs x s. (x, now (s .0))) exports-tallowbrim-packet-reads.Post
+exports-tallowbrim-packet κs arguments x y s t p q = sym p ∙ q
+
+-- so does the lent record's call from another language
+abbrev pub LentOutside : Receive → ℕ → Bool → Receive → ℕ → Type 0
+LentOutside before number whole after verdict = judgedPacked (judged before number whole) ≡ (verdict, after)
+
+module _ {M : Type 1} (𝓤 : URA M) (H : Heap 𝓤) (A : Atoms 𝓤) (at-mem : Memory → SProp 𝓤) (run : Routine → Fun 𝓤) where
+  pub exports-tallowbrim-step-claim : (κs : Lfts 1) (a : ArgsD exports-tallowbrim-step-contract.signature κs) (x : ℕ) (s : AtExit exports-tallowbrim-step-contract.ended κs) →
+      exports-tallowbrim-step-contract.clauses 𝓤 H A at-mem run κs a .ensures tt x s ≡ fact 𝓤 (LentOutside (now (a .0)) (a .1 .0) (a .1 .1 .0) (now (s .0)) x)
+  exports-tallowbrim-step-claim κs a x s = refl
+
+pub exports-tallowbrim-step : (before : Receive) (number : ℕ) (whole : Bool) (r q : Receive) (x y : ℕ) → LentOutside before number whole r x → LentOutside before number whole q y →
+    _≡_ {A = ℕ × Receive} (x, r) (y, q)
+exports-tallowbrim-step before number whole r q x y p e = sym p ∙ e

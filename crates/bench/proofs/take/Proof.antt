@@ -8,10 +8,10 @@ use Rattle.bench.proofs.take.Statement.{statement}
 use Rattle.bench.proofs.take.Tie as tie
 
 abbrev Inv-loop : tie.InvT-loop
-Inv-loop part line₀ bytes₀ out₀ state₀ at₀ line bytes out state at = (at ≤ length part + 1) × (length line ≡ length line₀) × (length bytes ≡ length bytes₀) × (length out ≡ length out₀)
+Inv-loop part line₀ lives₀ bytes₀ out₀ state₀ at₀ line lives bytes out state at = (at ≤ length part + 1) × (length line ≡ length line₀) × (length bytes ≡ length bytes₀) × (length out ≡ length out₀)
 
 abbrev μ-loop : tie.MeasureT-loop
-μ-loop part line₀ bytes₀ out₀ state₀ at₀ line bytes out state at = length part + 1 - at
+μ-loop part line₀ lives₀ bytes₀ out₀ state₀ at₀ line lives bytes out state at = length part + 1 - at
 
 pub take-spec : {M : Type 1} → statement M
 take-spec =

@@ -1,0 +1,147 @@
+//! Times one packet into a table of 64 lives, and one step of the record lent alone: the core, the peer in Rust and plain C.
+
+use crate::streams::{self, Order, Packet};
+use crate::timing;
+use crate::window::{self, Life, Window, ACCEPTED, LIVES};
+use std::hint::black_box;
+
+/// 64 rooms of six words (crates/sequence/src/table.rt).
+type Words = [u64; 384];
+
+type Step = unsafe extern "C" fn(&mut Window, u32, bool) -> u32;
+
+/// The table, destination, protocol, integrity, and a slice of bytes: where it begins, and its length.
+type PacketInto<Table> = unsafe extern "C" fn(&mut Table, u32, u8, bool, *const u8, usize) -> u32;
+
+extern "C" {
+    fn tallowbrim_step(record: &mut Window, number: u32, whole: bool) -> u32;
+    fn tallowbrim_packet(
+        table: &mut Words,
+        destination: u32,
+        protocol: u8,
+        whole: bool,
+        start: *const u8,
+        length: usize,
+    ) -> u32;
+    fn plain_c_step(window: &mut Window, number: u32, whole: bool) -> u32;
+    fn plain_c_packet(
+        lives: &mut [Life; LIVES],
+        destination: u32,
+        protocol: u8,
+        whole: bool,
+        start: *const u8,
+        length: usize,
+    ) -> u32;
+}
+
+const ORDERS: [(&str, Order); 2] = [("in order", Order::InOrder), ("mixed", Order::Mixed)];
+
+/// The core's time over each peer's, the greater one of the two orders.
+pub struct Ratios {
+    rust: f64,
+    c: f64,
+}
+
+impl std::fmt::Display for Ratios {
+    fn fmt(&self, to: &mut std::fmt::Formatter) -> std::fmt::Result {
+        write!(to, "rust {:.2} c {:.2}", self.rust, self.c)
+    }
+}
+
+pub fn record() -> Ratios {
+    greatest(ORDERS.map(|(order_name, order)| {
+        let stream = &streams::packets(order, 1);
+        let calls = black_box([tallowbrim_step as Step, window::step, plain_c_step]);
+        let [core, rust, c] = calls;
+        let accepted = alike(order_name, calls.map(|call| steps(call, stream).collect()));
+        let times = timing::medians(
+            [&|| sum(steps(core, stream)), &|| sum(steps(rust, stream)), &|| sum(steps(c, stream))],
+            stream.len(),
+        );
+        told(&format!("step, {order_name} ({accepted})"), times)
+    }))
+}
+
+pub fn table() -> Ratios {
+    greatest(ORDERS.map(|(order_name, order)| {
+        let stream = &streams::packets(order, LIVES);
+        let core = black_box(tallowbrim_packet as PacketInto<Words>);
+        let [rust, c] = black_box([window::packet as PacketInto<[Life; LIVES]>, plain_c_packet]);
+        let (words, lives) = (words(), lives());
+        let accepted = alike(
+            order_name,
+            [
+                into(core, words, stream).collect(),
+                into(rust, lives, stream).collect(),
+                into(c, lives, stream).collect(),
+            ],
+        );
+        let times = timing::medians(
+            [&|| sum(into(core, words, stream)), &|| sum(into(rust, lives, stream)), &|| sum(into(c, lives, stream))],
+            stream.len(),
+        );
+        told(&format!("packet, {order_name} ({accepted})"), times)
+    }))
+}
+
+/// The verdicts of a record's steps, from its beginning.
+fn steps(call: Step, stream: &[Packet]) -> impl Iterator<Item = u32> + '_ {
+    let mut record = Window::default();
+    // SAFETY: each of the three takes any record and any number.
+    stream.iter().map(move |packet| unsafe { call(&mut record, packet.number, packet.whole) })
+}
+
+/// The verdicts of packets into a table.
+fn into<Table>(
+    call: PacketInto<Table>,
+    mut table: Table,
+    stream: &[Packet],
+) -> impl Iterator<Item = u32> + use<'_, Table> {
+    // SAFETY: the last two are those of a slice that outlives the call.
+    stream.iter().map(move |packet| unsafe {
+        call(&mut table, packet.destination, packet.protocol, packet.whole, packet.bytes.as_ptr(), packet.bytes.len())
+    })
+}
+
+fn sum(verdicts: impl Iterator<Item = u32>) {
+    black_box(verdicts.fold(0, u32::wrapping_add));
+}
+
+/// The 64 lives as the core's words, each at its beginning.
+fn words() -> Words {
+    let mut words = [0; 384];
+    for (room, key) in words.chunks_exact_mut(6).zip(streams::keys()) {
+        room[0] = u64::from(key.protocol) + 1;
+        room[1] = key.destination.into();
+        room[2] = key.spi.into();
+    }
+    words
+}
+
+/// The same lives as the peers'.
+fn lives() -> [Life; LIVES] {
+    streams::keys().map(|key| Life {
+        spi: key.spi,
+        destination: key.destination,
+        protocol: key.protocol,
+        used: true,
+        window: Window::default(),
+    })
+}
+
+/// How many packets of a stream are accepted, where the three answer it alike, verdict for verdict.
+fn alike(order_name: &str, verdicts: [Vec<u32>; 3]) -> String {
+    let [core, peers @ ..] = &verdicts;
+    assert!(peers.iter().all(|peer| peer == core), "{order_name}: the three answer unlike");
+    format!("{} of {} accepted", core.iter().filter(|&&verdict| verdict == ACCEPTED).count(), core.len())
+}
+
+fn told(what: &str, [core, rust, c]: [f64; 3]) -> Ratios {
+    let ratios = Ratios { rust: core / rust, c: core / c };
+    println!("{what}: core {core:.2}, rust {rust:.2}, c {c:.2}, ratio {ratios}");
+    ratios
+}
+
+fn greatest([a, b]: [Ratios; 2]) -> Ratios {
+    Ratios { rust: a.rust.max(b.rust), c: a.c.max(b.c) }
+}

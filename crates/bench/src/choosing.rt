@@ -1,0 +1,63 @@
+// `book BYTES` and `choose BOOK BYTES`: what a policy book holds, and what it chooses of a message.
+use crate::hex;
+use crate::hex::Decoded;
+use crate::say;
+use crate::say::append;
+use crate::words;
+use policy::Book;
+use policy::Choice;
+use policy::Transforms;
+use wire::after;
+use wire::front;
+
+pub(crate) fn book(line: &[u8], bytes: &mut [u8], out: &mut [u8], said: usize) -> usize {
+    let Decoded::To(end) = hex::decode(words::nth(line, 1), bytes, 0) else {
+        return say::bad_line(out, said);
+    };
+    let read = policy::lines::read_book(front(bytes, end));
+    match read {
+        Book::Refused(n) => say::refused(out, said, n),
+        Book::Lawful { main, quick } => {
+            let said = append(out, said, b"book");
+            let said = say::number(out, said, main as u64);
+            say::number(out, said, quick as u64)
+        }
+    }
+}
+
+pub(crate) fn choose(line: &[u8], bytes: &mut [u8], out: &mut [u8], said: usize) -> usize {
+    let Decoded::To(middle) = hex::decode(words::nth(line, 1), bytes, 0) else {
+        return say::bad_line(out, said);
+    };
+    let Decoded::To(end) = hex::decode(words::nth(line, 2), bytes, middle) else {
+        return say::bad_line(out, said);
+    };
+    let both = front(bytes, end);
+    chosen(
+        policy::choose::choose(front(both, middle), after(both, middle)),
+        out,
+        said,
+    )
+}
+
+fn chosen(choice: Choice, out: &mut [u8], said: usize) -> usize {
+    match choice {
+        Choice::Refused(n) => say::refused(out, said, n),
+        Choice::Chosen(set, line, transforms) => {
+            let said = append(out, said, b"chosen");
+            let said = say::number(out, said, set.0 as u64);
+            let said = say::number(out, said, line.0 as u64);
+            numbers(transforms, out, said)
+        }
+    }
+}
+
+fn numbers(transforms: Transforms, out: &mut [u8], said: usize) -> usize {
+    match transforms {
+        Transforms::One(t) => say::number(out, said, t.0 as u64),
+        Transforms::Two(t, u) => {
+            let said = say::number(out, said, t.0 as u64);
+            say::number(out, said, u.0 as u64)
+        }
+    }
+}

@@ -1,0 +1,17 @@
+// The word that says whether a packet's integrity holds: `yes` or `no`.
+use wire::equal;
+
+pub(crate) enum Integrity {
+    Holds(bool),
+    Wrong,
+}
+
+pub(crate) fn read(word: &[u8]) -> Integrity {
+    if equal(word, b"yes") {
+        Integrity::Holds(true)
+    } else if equal(word, b"no") {
+        Integrity::Holds(false)
+    } else {
+        Integrity::Wrong
+    }
+}

@@ -1,0 +1,46 @@
+// A word that is a number: in decimal, or as the four bytes in hex of a destination or an SPI.
+use crate::hex;
+use crate::hex::Decoded;
+use crate::hex::value;
+use wire::be32;
+use wire::byte;
+
+pub(crate) enum Number {
+    Is(u32),
+    Wrong,
+}
+
+// A number in decimal, up to the most that is lawful. A zero before other digits is wrong.
+pub(crate) fn decimal(word: &[u8], most: u32) -> Number {
+    if (word.len() == 0) | ((1 < word.len()) & (byte(word, 0) == b'0')) {
+        return Number::Wrong;
+    }
+    let mut n = 0u64;
+    let mut i = 0;
+    while i < word.len() {
+        let digit = value(word[i]);
+        let next = n * 10 + digit as u64;
+        if 9 < digit {
+            return Number::Wrong;
+        }
+        if (most as u64) < next {
+            return Number::Wrong;
+        }
+        n = next;
+        i += 1;
+    }
+    Number::Is(n as u32)
+}
+
+// Eight digits in hex, no fewer and no more.
+pub(crate) fn four_bytes(word: &[u8]) -> Number {
+    let mut bytes = [0u8; 4];
+    let Decoded::To(end) = hex::decode(word, &mut bytes, 0) else {
+        return Number::Wrong;
+    };
+    if end == 4 {
+        Number::Is(be32(&bytes, 0))
+    } else {
+        Number::Wrong
+    }
+}

@@ -1,0 +1,28 @@
+-- Each arm knows which of its two forms the verdict has.
+use Prim.Native.Nat.{ℕ}
+use mathlib.Core.Path.{_≡_, sym, ap}
+use borrow.Author.Needs.{needs}
+use Rattle.sequence.specs.declared.receive.Verdict.{Verdict}
+use Rattle.sequence.specs.declared.receive.Verdict.the-variants as Y
+use Rattle.exports.specs.Exports.{verdictPacked}
+use Rattle.exports.proofs.verdict_packed.Statement.{statement}
+use Rattle.exports.proofs.verdict_packed.Tie as tie
+
+module _ (verdict : Verdict) where
+  packed-accepted : verdict ≡ Y.Accepted → 65536 ≡ verdictPacked verdict
+  unfolding verdictPacked
+  packed-accepted is = ap verdictPacked (sym is)
+
+  packed-refused : (number : ℕ) → verdict ≡ Y.Refused number → number ≡ verdictPacked verdict
+  unfolding verdictPacked
+  packed-refused number is = ap verdictPacked (sym is)
+
+pub verdict-packed-spec : {M : Type 1} → statement M
+verdict-packed-spec =
+    tie.close
+    (tie.spec
+    (λ c. search needs)
+    (λ c. search needs)
+    (λ c. search needs)
+    (λ c. search packed-accepted)
+    (λ c. search packed-refused))
