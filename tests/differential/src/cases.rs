@@ -1,8 +1,12 @@
 //! A case: lines for both programs, and what is known about their answers.
 
+use crate::message::Message;
+
 pub struct Case {
     /// What it tries, in the words in which a difference is shown.
     pub kind: &'static str,
+    /// What is particular about it among those of its kind.
+    pub detail: String,
     /// Whole lines; only in a case that runs alone may the last one lack its line end.
     pub input: Vec<u8>,
     /// One for each answer owed: the right one, or `None` where only agreement is asked.
@@ -11,9 +15,20 @@ pub struct Case {
     pub alone: bool,
 }
 
+impl Case {
+    pub fn title(&self) -> String {
+        if self.detail.is_empty() {
+            return self.kind.to_string();
+        }
+        format!("{}: {}", self.kind, self.detail)
+    }
+}
+
 /// Where the maker of one kind of case puts its cases.
 pub struct Cases {
     pub kind: &'static str,
+    /// Goes with every case that follows.
+    pub detail: String,
     pub made: Vec<Case>,
 }
 
@@ -26,6 +41,34 @@ impl Cases {
     /// A line `port BYTES`, with its answer.
     pub fn port(&mut self, bytes: &[u8], answer: String) {
         self.line("port", bytes, Some(answer));
+    }
+
+    /// A line `read BYTES`, with its answer where it is known.
+    pub fn read(&mut self, bytes: &[u8], answer: Option<String>) {
+        self.line("read", bytes, answer);
+    }
+
+    pub fn lawful(&mut self, message: &Message) {
+        self.read(&message.encode(), Some(message.reading()));
+    }
+
+    pub fn refused(&mut self, message: &Message, number: u16) {
+        self.read(&message.encode(), Some(refused(number)));
+    }
+
+    /// The message as it stands: lawful, or refused with that number.
+    pub fn decided(&mut self, message: &Message, lawful: bool, number: u16) {
+        if lawful {
+            self.lawful(message);
+        } else {
+            self.refused(message, number);
+        }
+    }
+
+    /// A line `identity EXCHANGE BYTES`, with its answer where it is known.
+    pub fn identity(&mut self, exchange: u8, bytes: &[u8], lawful: Option<bool>) {
+        let answer = lawful.map(|lawful| if lawful { "done".to_string() } else { refused(18) });
+        self.line(&format!("identity {exchange}"), bytes, answer);
     }
 
     fn line(&mut self, verb: &str, bytes: &[u8], answer: Option<String>) {
@@ -44,8 +87,12 @@ impl Cases {
     }
 
     fn add(&mut self, input: Vec<u8>, answers: Vec<Option<String>>, alone: bool) {
-        self.made.push(Case { kind: self.kind, input, answers, alone });
+        self.made.push(Case { kind: self.kind, detail: self.detail.clone(), input, answers, alone });
     }
+}
+
+pub fn refused(number: u16) -> String {
+    format!("refused {number}")
 }
 
 /// Bytes as a word of a line.

@@ -95,6 +95,7 @@ mod tests {
     fn compared(known: &[Option<&str>], bench: &[u8], second: &[u8]) -> Comparison {
         let case = Case {
             kind: "made up",
+            detail: String::new(),
             input: Vec::new(),
             answers: known.iter().map(|answer| answer.map(str::to_string)).collect(),
             alone: false,

@@ -1,11 +1,22 @@
-//! The groups of cases. A group names every kind of answer that must occur in it, and its kinds of cases with their makers.
+//! The groups of cases. A group names every kind of answer that must occur in it, how often at least, and its kinds of
+//! cases with their makers.
 
 mod der_damage;
 mod der_lengths;
 mod der_small;
 mod der_trees;
+mod identities;
 mod lines;
+mod message_checks;
+mod message_damage;
+mod messages;
+mod offer_checks;
+mod offer_damage;
 mod port;
+mod sequence_lines;
+mod sequence_packets;
+mod sequence_table;
+mod sequence_window;
 
 use crate::cases::{Case, Cases};
 use crate::random::Random;
@@ -15,11 +26,56 @@ pub type Maker = fn(&mut Random, &mut Cases);
 pub struct Group {
     pub name: &'static str,
     pub answers: &'static [&'static str],
+    /// How often each of them must occur.
+    pub at_least: usize,
+    /// Answers that may occur beside these.
+    pub also: &'static [&'static str],
+    /// Whether an answer hangs on the lines before, so that a case by itself means nothing.
+    pub in_order: bool,
     pub kinds: &'static [(&'static str, Maker)],
 }
 
-pub const ALL: &[Group] =
-    &[der_trees::GROUP, der_lengths::GROUP, der_damage::GROUP, der_small::GROUP, port::GROUP, lines::GROUP];
+pub const ALL: &[Group] = &[
+    der_trees::GROUP,
+    der_lengths::GROUP,
+    der_damage::GROUP,
+    der_small::GROUP,
+    port::GROUP,
+    lines::GROUP,
+    messages::GROUP,
+    message_checks::GROUP,
+    message_damage::GROUP,
+    offer_checks::GROUP,
+    offer_damage::GROUP,
+    identities::GROUP,
+    sequence_window::GROUP,
+    sequence_table::GROUP,
+    sequence_packets::GROUP,
+    sequence_lines::GROUP,
+];
+
+/// Every line `read` is answered by one of these.
+const READ_ANSWERS: &[&str] = &[
+    "read",
+    "refused 1",
+    "refused 2",
+    "refused 3",
+    "refused 4",
+    "refused 5",
+    "refused 6",
+    "refused 7",
+    "refused 8",
+    "refused 9",
+    "refused 10",
+    "refused 11",
+    "refused 13",
+    "refused 15",
+    "refused 16",
+    "refused 18",
+    "refused 19",
+    "refused 29",
+    "refused 30",
+];
 
 /// Every line `der` is answered by one of these.
 const DER_ANSWERS: &[&str] = &["name", "element", "none"];
@@ -30,9 +86,10 @@ const MOST_DER_BYTES: usize = (65_535 - "der ".len()) / 2;
 impl Group {
     pub fn cases(&self, seed: u64) -> Vec<Case> {
         let mut random = Random::new(seed, self.name);
-        let mut cases = Cases { kind: "", made: Vec::new() };
+        let mut cases = Cases { kind: "", detail: String::new(), made: Vec::new() };
         for &(kind, make) in self.kinds {
             cases.kind = kind;
+            cases.detail.clear();
             make(&mut random, &mut cases);
         }
         cases.made

@@ -27,7 +27,7 @@ pub fn body(kind: u8, protocol: u8, port: u16, data: &[u8]) -> Vec<u8> {
 pub fn random_body(random: &mut Random, exchange: u8) -> Vec<u8> {
     let (kind, size) = random.one_of(addresses(exchange));
     if exchange != MAIN_MODE {
-        let (protocol, port) = random.one_of(&[(0, 0), (6, 443), (random.byte(), random.number(16) as u16)]);
+        let (protocol, port) = [(0, 0), (6, 443), (random.byte(), random.number(16) as u16)][random.below(3)];
         return body(kind, protocol, port, &random.bytes(size));
     }
     match random.below(4) {

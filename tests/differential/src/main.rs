@@ -1,10 +1,17 @@
 //! Feeds the same lines to `bench` and to the second program and compares every answer; see ../README.md.
 
 mod cases;
+mod checks;
 mod compare;
+mod damage;
 mod groups;
+mod identity;
+mod layout;
+mod message;
+mod offer;
 mod programs;
 mod random;
+mod sequence;
 mod tree;
 
 use cases::Case;
@@ -23,25 +30,26 @@ const ENDS_SHOWN: usize = 100;
 struct Request {
     programs: Programs,
     seed: u64,
-    group: Option<String>,
+    groups: Vec<&'static Group>,
     case: Option<usize>,
 }
 
 fn request(mut arguments: impl Iterator<Item = String>) -> Option<Request> {
     let bench = arguments.next()?.into();
     let second = arguments.next()?.into();
-    let mut request = Request { programs: Programs::new(bench, second), seed: DEFAULT_SEED, group: None, case: None };
+    let groups = groups::ALL.iter().collect();
+    let mut request = Request { programs: Programs::new(bench, second), seed: DEFAULT_SEED, groups, case: None };
     while let Some(option) = arguments.next() {
         let value = arguments.next()?;
         match option.as_str() {
             "--seed" => request.seed = value.parse().ok()?,
             "--only" => {
-                let (group, case) = match value.split_once(':') {
+                let (names, case) = match value.split_once(':') {
                     Some((group, case)) => (group, Some(case.parse().ok()?)),
                     None => (value.as_str(), None),
                 };
-                groups::ALL.iter().find(|known| known.name == group)?;
-                request.group = Some(group.to_string());
+                let known = |name| groups::ALL.iter().find(|group| group.name == name);
+                request.groups = names.split(',').map(known).collect::<Option<_>>()?;
                 request.case = case;
             }
             _ => return None,
@@ -52,7 +60,7 @@ fn request(mut arguments: impl Iterator<Item = String>) -> Option<Request> {
 
 fn usage() -> ! {
     let names: Vec<_> = groups::ALL.iter().map(|group| group.name).collect();
-    eprintln!("usage: differential BENCH SECOND [--seed N] [--only GROUP | --only GROUP:CASE]");
+    eprintln!("usage: differential BENCH SECOND [--seed N] [--only GROUP,.. | --only GROUP:CASE]");
     eprintln!("groups: {}", names.join(", "));
     std::process::exit(2)
 }
@@ -84,10 +92,7 @@ impl Tally {
 fn main() {
     let Some(request) = request(std::env::args().skip(1)) else { usage() };
     let mut tally = Tally::default();
-    for group in groups::ALL {
-        if request.group.as_deref().is_some_and(|name| name != group.name) {
-            continue;
-        }
+    for group in &request.groups {
         match request.case {
             Some(number) => run_case(&request, group, number, &mut tally),
             None => run_group(&request, group, &mut tally),
@@ -125,12 +130,13 @@ fn count_occurrences(
     tally: &mut Tally,
 ) {
     let name = group.name;
-    let unseen: Vec<_> = answers.iter().filter(|(_, count)| *count == 0).collect();
-    tally.count(&format!("{name}: every kind of answer occurred"), &unseen, |(answer, _)| {
-        format!("`{answer}` never occurred")
+    let rare: Vec<_> = answers.iter().filter(|(_, count)| *count < group.at_least).collect();
+    tally.count(&format!("{name}: every kind of answer occurred often enough"), &rare, |(answer, count)| {
+        format!("`{answer}` occurred {count} times, not {}", group.at_least)
     });
 
-    let foreign = |answer: &&String| !group.answers.iter().any(|kind| is_of_kind(answer, kind));
+    let kinds = group.answers.iter().chain(group.also);
+    let foreign = |answer: &&String| !kinds.clone().any(|kind| is_of_kind(answer, kind));
     let foreign: Vec<_> = comparison.agreed.iter().filter(foreign).collect();
     tally.count(&format!("{name}: no other kind of answer occurred"), &foreign, |answer| {
         format!("`{}`", shortened(answer))
@@ -143,7 +149,7 @@ fn count_occurrences(
     });
 }
 
-/// Runs one case by itself and shows it whole.
+/// Runs one case and shows it whole: by itself, or behind all that come before it where its answer hangs on them.
 fn run_case(request: &Request, group: &Group, number: usize, tally: &mut Tally) {
     let mut cases = group.cases(request.seed);
     if number >= cases.len() {
@@ -151,10 +157,15 @@ fn run_case(request: &Request, group: &Group, number: usize, tally: &mut Tally) 
         tally.failed += 1;
         return;
     }
-    let cases = [cases.swap_remove(number)];
-    println!("{}", cases[0].input.escape_ascii());
+    cases.truncate(number + 1);
+    if !group.in_order {
+        cases.drain(..number);
+    }
+    cases.iter().for_each(|case| println!("{}", case.input.escape_ascii()));
     let comparison = compare(&request.programs, &cases);
-    println!("agreed: {}", comparison.agreed.join(", "));
+    let own_answers = cases[cases.len() - 1].answers.len();
+    let agreed = comparison.agreed.iter().rev().take(own_answers).rev().cloned().collect::<Vec<_>>();
+    println!("agreed: {}", agreed.join(", "));
     count_comparison(request, group, &cases, &comparison, tally);
 }
 
@@ -176,15 +187,16 @@ fn count_comparison(request: &Request, group: &Group, cases: &[Case], comparison
 fn show(request: &Request, group: &Group, case: &Case, difference: &Difference) -> String {
     let answer = |answer: &Option<String>| answer.clone().unwrap_or("(no answer)".to_string());
     let known = difference.known.clone().unwrap_or("(only that both agree)".to_string());
-    let number = request.case.unwrap_or(difference.case);
+    let number = request.case.filter(|_| !group.in_order).unwrap_or(difference.case);
     [
-        format!("{}, answer {} of {}", case.kind, difference.answer, case.answers.len()),
+        format!("{}, answer {} of {}", case.title(), difference.answer, case.answers.len()),
         format!("  input   {}", shortened(&case.input.escape_ascii().to_string())),
         format!("  bench   {}", shortened(&answer(&difference.bench))),
         format!("  second  {}", shortened(&answer(&difference.second))),
         format!("  known   {known}"),
         format!(
-            "  this case alone and whole: differential {} {} --seed {} --only {}:{number}",
+            "  {}: differential {} {} --seed {} --only {}:{number}",
+            if group.in_order { "all lines up to this one" } else { "this case alone and whole" },
             request.programs.bench.display(),
             request.programs.second.display(),
             request.seed,
@@ -210,8 +222,8 @@ fn count_answers(group: &Group, answers: &[String]) -> Vec<(&'static str, usize)
 
 /// A kind of answer is the answer itself, or what stands before its numbers.
 fn is_of_kind(answer: &str, kind: &str) -> bool {
-    let numbers =
-        |rest: &str| rest.starts_with(' ') && !rest.contains(|letter: char| !letter.is_ascii_digit() && letter != ' ');
+    let is_of_numbers = |letter: char| letter.is_ascii_digit() || " @+".contains(letter);
+    let numbers = |rest: &str| rest.starts_with(' ') && rest.chars().all(is_of_numbers);
     answer.strip_prefix(kind).is_some_and(|rest| rest.is_empty() || numbers(rest))
 }
 
@@ -222,6 +234,7 @@ mod tests {
     #[test]
     fn a_refusal_keeps_its_number_and_other_answers_lose_theirs() {
         assert!(is_of_kind("key-exchange 4 1", "key-exchange"));
+        assert!(is_of_kind("read 2 1 1@28+52", "read"));
         assert!(is_of_kind("refused 16", "refused 16"));
         assert!(!is_of_kind("refused 16", "refused 1"));
         assert!(!is_of_kind("name (without a line end)", "name"));

@@ -48,8 +48,19 @@ pub struct Message {
     pub payloads: Vec<Payload>,
     /// The type that the last payload announces behind itself.
     pub after_last: u8,
-    /// Behind the last payload; with flag 1 the fewest zero bytes to 16, and with flag 0 none, where it is `None`.
-    pub rest: Option<Vec<u8>>,
+    pub rest: Rest,
+}
+
+/// What stands behind the last payload.
+#[derive(Clone)]
+pub enum Rest {
+    /// With flag 1 the fewest zero bytes to 16, with flag 0 nothing.
+    Fewest,
+    /// So many zero bytes more.
+    More(usize),
+    /// The fewest, and the last of them, if there is one, not zero.
+    Nonzero,
+    Is(Vec<u8>),
 }
 
 #[derive(Clone)]
@@ -83,13 +94,21 @@ impl Message {
         for (payload, &next) in self.payloads.iter().zip(&types[1..]) {
             payload.write(&mut layout, next);
         }
-        match &self.rest {
-            Some(rest) => layout.bytes(rest),
-            None if self.flags & 1 == 1 => layout.bytes(&padding(layout.bytes.len())),
-            None => (),
-        }
+        let rest = self.rest_behind(layout.bytes.len());
+        layout.bytes(&rest);
         layout.close();
         layout
+    }
+
+    fn rest_behind(&self, size: usize) -> Vec<u8> {
+        let mut fewest = if self.flags & 1 == 1 { padding(size) } else { Vec::new() };
+        match &self.rest {
+            Rest::Fewest => (),
+            Rest::More(more) => fewest.resize(fewest.len() + more, 0),
+            Rest::Nonzero => fewest.iter_mut().rev().take(1).for_each(|last| *last = 1),
+            Rest::Is(bytes) => return bytes.clone(),
+        }
+        fewest
     }
 
     pub fn encode(&self) -> Vec<u8> {
@@ -119,12 +138,11 @@ impl Message {
         })
     }
 
-    /// An opaque payload at the front that makes the chain, with so many bytes behind it, end at a multiple of 16.
-    pub fn fill_block(&mut self, behind: usize) {
-        self.rest = Some(Vec::new());
-        let size = self.encode().len() + PAYLOAD_HEADER_SIZE + behind;
+    /// So many zero bytes behind the last payload, and an opaque one at the front that brings all to a multiple of 16.
+    pub fn leave(&mut self, rest: usize) {
+        self.rest = Rest::Is(vec![0; rest]);
+        let size = self.encode().len() + PAYLOAD_HEADER_SIZE;
         self.payloads.insert(0, opaque(VENDOR, padding(size)));
-        self.rest = None;
     }
 }
 
@@ -141,8 +159,12 @@ impl Payload {
         match &self.body {
             Body::Offer(offer) => offer.write(layout),
             Body::Bytes(bytes) => {
-                // The fields of an identity, and a certificate's encoding.
-                let fields = if self.kind == IDENTITY { 2 } else { 0 } + usize::from(self.kind == CERTIFICATE);
+                // An identity's type and protocol, a certificate's encoding.
+                let fields = match self.kind {
+                    IDENTITY => 2,
+                    CERTIFICATE => 1,
+                    _ => 0,
+                };
                 let (front, back) = bytes.split_at(fields.min(bytes.len()));
                 front.iter().for_each(|&byte| layout.number("body's first bytes", 1, byte.into()));
                 layout.bytes(back);
@@ -195,19 +217,19 @@ pub fn message_of(random: &mut Random, exchange: u8, flags: u8, types: &[u8], si
         length: Length::Right,
         payloads,
         after_last: 0,
-        rest: None,
+        rest: Rest::Fewest,
     }
 }
 
 pub fn lawful_id(random: &mut Random, exchange: u8) -> u32 {
     match exchange {
         MAIN_MODE => 0,
-        INFORMATIONAL => random.one_of(&[0, 1, random.number(32) as u32]),
+        INFORMATIONAL => [0, 1, random.number(32) as u32][random.below(3)],
         _ => 1 + random.number(31) as u32,
     }
 }
 
-/// A type that has no place in the exchange a second time, or at all.
+/// A type that may follow these in the exchange.
 fn random_type(random: &mut Random, exchange: u8, before: &[u8]) -> u8 {
     const TYPES: [u8; 14] = [
         SA,
@@ -228,7 +250,8 @@ fn random_type(random: &mut Random, exchange: u8, before: &[u8]) -> u8 {
     loop {
         let kind = random.one_of(&TYPES);
         let barred = exchange == INFORMATIONAL && matches!(kind, SA | IDENTITY);
-        if !barred && !(kind == SA && before.contains(&SA)) {
+        let second = kind == SA && before.contains(&SA);
+        if !barred && !second {
             return kind;
         }
     }
@@ -268,12 +291,11 @@ mod tests {
     }
 
     #[test]
-    fn a_filled_block_leaves_just_the_room_asked_for() {
-        let mut random = Random::new(1, "block");
-        for behind in 0..20 {
+    fn any_rest_can_be_left_in_whole_blocks() {
+        let mut random = Random::new(1, "rest");
+        for rest in 0..20 {
             let mut message = random_message(&mut random, QUICK_MODE, 3, offer::SMALL);
-            message.fill_block(behind);
-            message.rest = Some(vec![0; behind]);
+            message.leave(rest);
             assert_eq!((message.encode().len() - HEADER_SIZE) % BLOCK, 0);
         }
     }

@@ -78,10 +78,6 @@ impl Offer {
     pub fn last_transform(&mut self) -> &mut Transform {
         self.last_proposal().transforms.last_mut().expect("a proposal has a transform")
     }
-
-    pub fn last_attribute(&mut self) -> &mut Attribute {
-        self.last_transform().attributes.last_mut().expect("a transform that is spoiled has an attribute")
-    }
 }
 
 impl Proposal {
@@ -235,7 +231,7 @@ pub fn random_transforms(random: &mut Random, exchange: u8, count: usize, most_a
             let count = random.between(0, most_attributes);
             random_attributes(random, exchange, count)
         };
-        let id = random.one_of(&[1, 20, 129, random.byte()]);
+        let id = [1, 20, 129, random.byte()][random.below(4)];
         transforms.push(transform(number, id, attributes));
         number += random.between(1, 3) as u8;
     }

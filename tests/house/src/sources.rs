@@ -32,7 +32,8 @@ pub fn below(folder: &Path, ending: &str) -> Vec<PathBuf> {
 pub fn public_functions(crates: &Path) -> Vec<PublicFunction> {
     let mut found = Vec::new();
     for path in below(crates, "rt") {
-        let krate = path.strip_prefix(crates).unwrap().components().next().unwrap().as_os_str().to_string_lossy().into_owned();
+        let krate =
+            path.strip_prefix(crates).unwrap().components().next().unwrap().as_os_str().to_string_lossy().into_owned();
         if !crates.join(&krate).join("src/lib.rt").exists() {
             continue;
         }

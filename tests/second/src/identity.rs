@@ -4,13 +4,6 @@ use crate::der;
 use crate::message::{MAIN_MODE, QUICK_MODE};
 use crate::refusal::{self, refuse_if, Refusal};
 
-pub fn answer(exchange: u8, body: &[u8]) -> String {
-    match check(exchange, body) {
-        Ok(()) => "done".to_string(),
-        Err(number) => format!("refused {number}"),
-    }
-}
-
 pub fn check(exchange: u8, body: &[u8]) -> Result<(), Refusal> {
     refuse_if(!is_lawful(exchange, body), refusal::IDENTITY)
 }

@@ -1,4 +1,6 @@
-//! A line's words, and bytes written in hex.
+//! A line's words: bytes written in hex, decimal numbers, yes or no.
+
+use std::str::{self, FromStr};
 
 /// Words are parted by single spaces: a space at either end or a second one makes an empty word, which suits nothing.
 pub fn words(line: &[u8]) -> Vec<&[u8]> {
@@ -14,6 +16,25 @@ pub fn bytes(word: &[u8]) -> Option<Vec<u8>> {
         return None;
     }
     word.chunks(2).map(|pair| Some(digit(pair[0])? << 4 | digit(pair[1])?)).collect()
+}
+
+/// Four bytes in hex.
+pub fn u32_in_hex(word: &[u8]) -> Option<u32> {
+    bytes(word)?.try_into().ok().map(u32::from_be_bytes)
+}
+
+/// A decimal number without leading zeros, up to the most that the type holds.
+pub fn decimal<Number: FromStr>(word: &[u8]) -> Option<Number> {
+    let lawful = word == b"0" || word.first() != Some(&b'0') && word.iter().all(u8::is_ascii_digit);
+    str::from_utf8(word).ok().filter(|_| lawful)?.parse().ok()
+}
+
+pub fn yes_or_no(word: &[u8]) -> Option<bool> {
+    match word {
+        b"yes" => Some(true),
+        b"no" => Some(false),
+        _ => None,
+    }
 }
 
 fn digit(byte: u8) -> Option<u8> {

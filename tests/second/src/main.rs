@@ -8,15 +8,23 @@ mod message;
 mod offer;
 mod port4500;
 mod refusal;
+mod sequence;
 mod wire;
 
+use message::{Payload, Reading};
+use refusal::Refusal;
+use sequence::{Key, Loss, Receive, Table};
 use std::io::{self, BufRead, BufReader, BufWriter, Read, Write};
 
 const LONGEST_LINE: usize = 65_535;
 const LINE_END: u8 = b'\n';
 
-/// Everything that lines can change; so far none does.
-struct Bench;
+/// Everything that lines can change.
+#[derive(Default)]
+struct Bench {
+    table: Table,
+    lent: Receive,
+}
 
 impl Bench {
     /// The answer to a line without its line end, or `None` where it gets no answer.
@@ -32,11 +40,65 @@ impl Bench {
         match words {
             [b"port", message] => Some(port4500::answer(&lines::bytes(message)?)),
             [b"der", element] => Some(der::answer(&lines::bytes(element)?).to_string()),
-            [b"read", message] => Some(message::answer(&lines::bytes(message)?)),
-            [b"identity", exchange, body] => Some(identity::answer(phase(exchange)?, &lines::bytes(body)?)),
+            [b"read", message] => Some(answer(message::read(&lines::bytes(message)?), reading)),
+            [b"identity", exchange, body] => Some(done(identity::check(phase(exchange)?, &lines::bytes(body)?))),
+            [b"packet", destination, protocol, integrity, packet] => {
+                let (destination, protocol) = (lines::u32_in_hex(destination)?, lines::decimal(protocol)?);
+                let (integrity, packet) = (lines::yes_or_no(integrity)?, lines::bytes(packet)?);
+                Some(accepted(self.table.packet(destination, protocol, integrity, &packet)))
+            }
+            [verb, destination, protocol, spi] => self.entry(verb, key(destination, protocol, spi)?),
+            [b"lent", b"new"] => {
+                self.lent = Receive::default();
+                Some("done".to_string())
+            }
+            [b"lent", b"loss"] => Some(loss(self.lent.loss())),
+            [b"lent", number, integrity] => {
+                let (number, integrity) = (lines::decimal(number)?, lines::yes_or_no(integrity)?);
+                Some(accepted(self.lent.step(number, integrity)))
+            }
             _ => None,
         }
     }
+
+    fn entry(&mut self, verb: &[u8], key: Key) -> Option<String> {
+        match verb {
+            b"add" => Some(done(self.table.add(key))),
+            b"remove" => Some(done(self.table.remove(key))),
+            b"send" => Some(answer(self.table.send(key), |number| format!("number {number}"))),
+            b"loss" => Some(answer(self.table.loss(key), loss)),
+            _ => None,
+        }
+    }
+}
+
+fn answer<Values>(outcome: Result<Values, Refusal>, show: impl FnOnce(Values) -> String) -> String {
+    match outcome {
+        Ok(values) => show(values),
+        Err(number) => format!("refused {number}"),
+    }
+}
+
+fn done(outcome: Result<(), Refusal>) -> String {
+    answer(outcome, |()| "done".to_string())
+}
+
+fn accepted(outcome: Result<(), Refusal>) -> String {
+    answer(outcome, |()| "accepted".to_string())
+}
+
+fn reading(Reading { exchange, payloads }: Reading) -> String {
+    let places = payloads.iter().map(|Payload { kind, start, length }| format!(" {kind}@{start}+{length}"));
+    format!("read {exchange} {}{}", payloads.len(), places.collect::<String>())
+}
+
+fn loss(Loss { highest, span, count }: Loss) -> String {
+    format!("loss {highest} {span} {count}")
+}
+
+fn key(destination: &[u8], protocol: &[u8], spi: &[u8]) -> Option<Key> {
+    let (destination, protocol) = (lines::u32_in_hex(destination)?, lines::decimal(protocol)?);
+    Some(Key { destination, protocol, spi: lines::u32_in_hex(spi)? })
 }
 
 /// The exchanges that have identities.
@@ -71,7 +133,7 @@ fn write_answer(bench: &mut Bench, line: &mut Line, output: &mut impl Write) -> 
 /// Answers are handed on before more input is waited for, so that a caller may write a line and read its answer.
 fn answer_all(input: impl Read, output: &mut impl Write) -> io::Result<()> {
     let mut input = BufReader::with_capacity(65_536, input);
-    let mut bench = Bench;
+    let mut bench = Bench::default();
     let mut line = Line::default();
     loop {
         if input.buffer().is_empty() {

@@ -6,7 +6,6 @@
 use crate::refusal::{self, refuse_if, Refusal};
 use crate::wire::{u16_at, u32_at};
 use crate::{identity, offer};
-use std::fmt::Write;
 
 pub const MAIN_MODE: u8 = 2;
 pub const INFORMATIONAL: u8 = 5;
@@ -37,18 +36,6 @@ pub struct Payload {
     pub length: usize,
 }
 
-pub fn answer(message: &[u8]) -> String {
-    let reading = match read(message) {
-        Ok(reading) => reading,
-        Err(number) => return format!("refused {number}"),
-    };
-    let mut answer = format!("read {} {}", reading.exchange, reading.payloads.len());
-    for Payload { kind, start, length } in reading.payloads {
-        write!(answer, " {kind}@{start}+{length}").expect("a string takes all that is written");
-    }
-    answer
-}
-
 pub fn read(message: &[u8]) -> Result<Reading, Refusal> {
     check_header(message)?;
     let exchange = message[18];
@@ -66,6 +53,7 @@ fn check_header(message: &[u8]) -> Result<(), Refusal> {
     let (initiator, responder) = (&message[..8], &message[8..16]);
     let [first, version, exchange, flags] = [message[16], message[17], message[18], message[19]];
     let id = u32_at(message, 20);
+    let past_a_block = (length - HEADER_SIZE) % BLOCK_SIZE;
     refuse_if(version >> 4 != 1, refusal::MAJOR_VERSION)?;
     refuse_if(version & 15 != 1, refusal::MINOR_VERSION)?;
     refuse_if(matches!(exchange, 1 | 3), refusal::EXCHANGE_1_OR_3)?;
@@ -73,7 +61,7 @@ fn check_header(message: &[u8]) -> Result<(), Refusal> {
     refuse_if(!matches!(flags, 0 | 1), refusal::FLAG)?;
     refuse_if(is_zero(initiator) || exchange == QUICK_MODE && is_zero(responder), refusal::COOKIE)?;
     refuse_if(exchange == MAIN_MODE && id != 0 || exchange == QUICK_MODE && id == 0, refusal::MESSAGE_ID)?;
-    refuse_if(flags == 1 && (length - HEADER_SIZE) % BLOCK_SIZE != 0, refusal::LENGTHS)?;
+    refuse_if(flags == 1 && past_a_block != 0, refusal::LENGTHS)?;
     refuse_if(first == 0, refusal::MALFORMED)
 }
 

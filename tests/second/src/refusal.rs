@@ -1,4 +1,4 @@
-//! Document 01, "Numbers an answer can carry": those that reading gives.
+//! Document 01, "Numbers an answer can carry": those that this program gives.
 
 pub type Refusal = u16;
 
@@ -18,8 +18,14 @@ pub const SA_SYNTAX: Refusal = 15;
 pub const MALFORMED: Refusal = 16;
 pub const IDENTITY: Refusal = 18;
 pub const CERTIFICATE_ENCODING: Refusal = 19;
+pub const INTEGRITY: Refusal = 24;
 pub const EXCHANGE_1_OR_3: Refusal = 29;
 pub const LENGTHS: Refusal = 30;
+pub const ACCEPTED_BEFORE: Refusal = 8_194;
+pub const ZERO_OR_BEHIND: Refusal = 8_197;
+pub const COUNTER_AT_END: Refusal = 8_198;
+pub const TABLE_FULL: Refusal = 8_199;
+pub const ENTRY_PRESENT: Refusal = 8_200;
 
 /// One check: its number if the test finds something wrong.
 pub fn refuse_if(wrong: bool, number: Refusal) -> Result<(), Refusal> {

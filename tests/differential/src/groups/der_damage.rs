@@ -9,6 +9,9 @@ use crate::tree::{constructed, random_tree, sound_answer, Inside, Place, Tree, C
 pub const GROUP: Group = Group {
     name: "der-damage",
     answers: DER_ANSWERS,
+    at_least: 1,
+    also: &[],
+    in_order: false,
     kinds: &[
         ("byte changed", byte_changed),
         ("byte removed", byte_removed),

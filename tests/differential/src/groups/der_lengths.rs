@@ -8,6 +8,9 @@ use crate::tree::{filling, length_in, primitive, shortest_size, sound_answer, Tr
 pub const GROUP: Group = Group {
     name: "der-lengths",
     answers: DER_ANSWERS,
+    at_least: 1,
+    also: &[],
+    in_order: false,
     kinds: &[
         ("short lengths in every form", short_lengths),
         ("long lengths in every form", long_lengths),

@@ -8,6 +8,9 @@ use crate::tree::{primitive, NAME_TAG};
 pub const GROUP: Group = Group {
     name: "der-small",
     answers: DER_ANSWERS,
+    at_least: 1,
+    also: &[],
+    in_order: false,
     kinds: &[
         ("every string to 3 bytes", every_string_to_3_bytes),
         ("every string of 4 and 5 bytes", every_string_of_4_and_5_bytes),

@@ -10,6 +10,9 @@ use crate::tree::{
 pub const GROUP: Group = Group {
     name: "der-trees",
     answers: DER_ANSWERS,
+    at_least: 1,
+    also: &[],
+    in_order: false,
     kinds: &[
         ("random tree", random_trees),
         ("every tag at every depth", every_tag_at_every_depth),

@@ -8,6 +8,9 @@ use crate::tree::{primitive, wrapped};
 pub const GROUP: Group = Group {
     name: "lines",
     answers: &["bad line", "name", "element", "none", "keepalive", "key-exchange", "esp", "refused 16"],
+    at_least: 1,
+    also: &[],
+    in_order: false,
     kinds: &[
         ("good line", good_lines),
         ("bad line", bad_lines),

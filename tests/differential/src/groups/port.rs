@@ -7,6 +7,9 @@ use crate::random::Random;
 pub const GROUP: Group = Group {
     name: "port",
     answers: &["keepalive", "key-exchange", "esp", "refused 16"],
+    at_least: 1,
+    also: &[],
+    in_order: false,
     kinds: &[
         ("every message to 6 bytes", every_message_to_6_bytes),
         ("every single byte", every_single_byte),
