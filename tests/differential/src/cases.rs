@@ -13,6 +13,8 @@ pub struct Case {
     pub answers: Vec<Option<String>>,
     /// Whether it gets programs of its own, because the end of input matters.
     pub alone: bool,
+    /// For each proposal that is offered its number and that of its first transform, where answers are counted by them.
+    pub firsts: Vec<(u8, u8)>,
 }
 
 impl Case {
@@ -71,6 +73,26 @@ impl Cases {
         self.line(&format!("identity {exchange}"), bytes, answer);
     }
 
+    /// A line `book BYTES`, with how many lines of each sort it has, or that it is refused, where that is known.
+    pub fn book(&mut self, bytes: &[u8], counts: Option<Option<(usize, usize)>>) {
+        let answer = |counts: Option<_>| counts.map_or(refused(8_193), |(main, quick)| format!("book {main} {quick}"));
+        self.line("book", bytes, counts.map(answer));
+    }
+
+    /// A line `choose BOOK BYTES`, with its answer where it is known.
+    pub fn choose(&mut self, book: &[u8], message: &[u8], answer: Option<String>) {
+        self.line(&format!("choose {}", word(book)), message, answer);
+    }
+
+    /// The same with a message that can be read and has an offer.
+    pub fn choose_offered(&mut self, book: &[u8], message: &Message, answer: Option<String>) {
+        self.choose(book, &message.encode(), answer);
+        let offers = message.payloads.iter().filter_map(|payload| payload.offer());
+        let proposals = offers.flat_map(|offer| &offer.proposals);
+        let firsts = proposals.map(|proposal| (proposal.number, proposal.transforms[0].number));
+        self.made.last_mut().expect("it was made").firsts = firsts.collect();
+    }
+
     fn line(&mut self, verb: &str, bytes: &[u8], answer: Option<String>) {
         let line = format!("{verb} {}\n", word(bytes));
         self.add(line.into_bytes(), vec![answer], false);
@@ -87,7 +109,14 @@ impl Cases {
     }
 
     fn add(&mut self, input: Vec<u8>, answers: Vec<Option<String>>, alone: bool) {
-        self.made.push(Case { kind: self.kind, detail: self.detail.clone(), input, answers, alone });
+        self.made.push(Case {
+            kind: self.kind,
+            detail: self.detail.clone(),
+            input,
+            answers,
+            alone,
+            firsts: Vec::new(),
+        });
     }
 }
 

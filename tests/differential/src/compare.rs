@@ -25,8 +25,8 @@ impl Difference {
 
 #[derive(Default)]
 pub struct Comparison {
-    /// Every answer on which both programs agree.
-    pub agreed: Vec<String>,
+    /// Every answer on which both programs agree, with the number of its case.
+    pub agreed: Vec<(usize, String)>,
     pub differences: Vec<Difference>,
     /// Programs that ended badly, or gave more or fewer answers than they owe.
     pub failures: Vec<String>,
@@ -74,7 +74,7 @@ fn compare_answers(cases: &[(usize, &Case)], bench: &[u8], second: &[u8], compar
             if difference.programs_disagree() || difference.programs_agree_on_a_wrong_answer() {
                 comparison.differences.push(difference);
             } else {
-                comparison.agreed.extend(difference.bench);
+                comparison.agreed.extend(difference.bench.map(|answer| (number, answer)));
             }
         }
     }
@@ -99,6 +99,7 @@ mod tests {
             input: Vec::new(),
             answers: known.iter().map(|answer| answer.map(str::to_string)).collect(),
             alone: false,
+            firsts: Vec::new(),
         };
         let mut comparison = Comparison::default();
         compare_answers(&[(0, &case)], bench, second, &mut comparison);
@@ -108,7 +109,7 @@ mod tests {
     #[test]
     fn equal_answers_agree() {
         let comparison = compared(&[Some("name"), None], b"name\nnone\n", b"name\nnone\n");
-        assert_eq!(comparison.agreed, ["name", "none"]);
+        assert_eq!(comparison.agreed, [(0, "name".to_string()), (0, "none".to_string())]);
         assert!(comparison.differences.is_empty());
     }
 

@@ -1,6 +1,8 @@
 //! The groups of cases. A group names every kind of answer that must occur in it, how often at least, and its kinds of
 //! cases with their makers.
 
+mod books;
+mod choices;
 mod der_damage;
 mod der_lengths;
 mod der_small;
@@ -23,6 +25,9 @@ use crate::random::Random;
 
 pub type Maker = fn(&mut Random, &mut Cases);
 
+/// What must occur beside kinds of answers: its name, how often at least, and how it is known by a case and an answer.
+pub type Occasion = (&'static str, usize, fn(&Case, &str) -> bool);
+
 pub struct Group {
     pub name: &'static str,
     pub answers: &'static [&'static str],
@@ -32,6 +37,7 @@ pub struct Group {
     pub also: &'static [&'static str],
     /// Whether an answer hangs on the lines before, so that a case by itself means nothing.
     pub in_order: bool,
+    pub occasions: &'static [Occasion],
     pub kinds: &'static [(&'static str, Maker)],
 }
 
@@ -52,6 +58,8 @@ pub const ALL: &[Group] = &[
     sequence_table::GROUP,
     sequence_packets::GROUP,
     sequence_lines::GROUP,
+    books::GROUP,
+    choices::GROUP,
 ];
 
 /// Every line `read` is answered by one of these.

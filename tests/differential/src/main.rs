@@ -9,6 +9,7 @@ mod identity;
 mod layout;
 mod message;
 mod offer;
+mod policy;
 mod programs;
 mod random;
 mod sequence;
@@ -107,8 +108,9 @@ fn run_group(request: &Request, group: &Group, tally: &mut Tally) {
     let cases = group.cases(request.seed);
     let comparison = compare(&request.programs, &cases);
     let answers = count_answers(group, &comparison.agreed);
+    let occasions = count_occasions(group, &cases, &comparison.agreed);
 
-    let counts: Vec<_> = answers.iter().map(|(answer, count)| format!("{count} {answer}")).collect();
+    let counts: Vec<_> = answers.iter().chain(&occasions).map(|(answer, count)| format!("{count} {answer}")).collect();
     println!(
         "{}: {} cases of {} kinds in {:.1} s; {}",
         group.name,
@@ -120,6 +122,14 @@ fn run_group(request: &Request, group: &Group, tally: &mut Tally) {
 
     count_comparison(request, group, &cases, &comparison, tally);
     count_occurrences(group, &cases, &comparison, &answers, tally);
+    if !group.occasions.is_empty() {
+        let asked = occasions.iter().zip(group.occasions).map(|(&(occasion, count), asked)| (occasion, count, asked.1));
+        let rare: Vec<_> = asked.filter(|(_, count, at_least)| count < at_least).collect();
+        let test = format!("{}: everything else that is asked for occurred often enough", group.name);
+        tally.count(&test, &rare, |(occasion, count, at_least)| {
+            format!("\"{occasion}\" occurred {count} times, not {at_least}")
+        });
+    }
 }
 
 fn count_occurrences(
@@ -137,7 +147,7 @@ fn count_occurrences(
 
     let kinds = group.answers.iter().chain(group.also);
     let foreign = |answer: &&String| !kinds.clone().any(|kind| is_of_kind(answer, kind));
-    let foreign: Vec<_> = comparison.agreed.iter().filter(foreign).collect();
+    let foreign: Vec<_> = comparison.agreed.iter().map(|(_, answer)| answer).filter(foreign).collect();
     tally.count(&format!("{name}: no other kind of answer occurred"), &foreign, |answer| {
         format!("`{}`", shortened(answer))
     });
@@ -164,7 +174,8 @@ fn run_case(request: &Request, group: &Group, number: usize, tally: &mut Tally) 
     cases.iter().for_each(|case| println!("{}", case.input.escape_ascii()));
     let comparison = compare(&request.programs, &cases);
     let own_answers = cases[cases.len() - 1].answers.len();
-    let agreed = comparison.agreed.iter().rev().take(own_answers).rev().cloned().collect::<Vec<_>>();
+    let agreed =
+        comparison.agreed.iter().rev().take(own_answers).rev().map(|(_, answer)| answer.clone()).collect::<Vec<_>>();
     println!("agreed: {}", agreed.join(", "));
     count_comparison(request, group, &cases, &comparison, tally);
 }
@@ -215,9 +226,17 @@ fn shortened(line: &str) -> String {
 }
 
 /// How often each kind of answer of the group occurred, in the group's order.
-fn count_answers(group: &Group, answers: &[String]) -> Vec<(&'static str, usize)> {
-    let count = |kind: &str| answers.iter().filter(|answer| is_of_kind(answer, kind)).count();
+fn count_answers(group: &Group, agreed: &[(usize, String)]) -> Vec<(&'static str, usize)> {
+    let count = |kind: &str| agreed.iter().filter(|(_, answer)| is_of_kind(answer, kind)).count();
     group.answers.iter().map(|&kind| (kind, count(kind))).collect()
+}
+
+fn count_occasions(group: &Group, cases: &[Case], agreed: &[(usize, String)]) -> Vec<(&'static str, usize)> {
+    let count = |occurs: fn(&Case, &str) -> bool| {
+        let occurred = |(case, answer): &&(usize, String)| occurs(&cases[*case], answer);
+        agreed.iter().filter(occurred).count()
+    };
+    group.occasions.iter().map(|&(occasion, _, occurs)| (occasion, count(occurs))).collect()
 }
 
 /// A kind of answer is the answer itself, or what stands before its numbers.

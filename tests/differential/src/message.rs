@@ -152,6 +152,13 @@ pub fn padding(size: usize) -> Vec<u8> {
 }
 
 impl Payload {
+    pub fn offer(&self) -> Option<&Offer> {
+        match &self.body {
+            Body::Offer(offer) => Some(offer),
+            Body::Bytes(_) => None,
+        }
+    }
+
     fn write(&self, layout: &mut Layout, next: u8) {
         layout.number("payload's next", 1, next.into());
         layout.number("payload's reserved byte", 1, self.reserved.into());

@@ -1,4 +1,5 @@
-//! The second program: answers the lines of `bench`, written from document 01 alone.
+//! The second program: answers the lines of `bench`, written from document 01 alone. `second verdict` is a verdict
+//! program instead.
 //! This file takes lines in and gives answers out; each rule has a room of its own.
 
 mod der;
@@ -6,12 +7,15 @@ mod identity;
 mod lines;
 mod message;
 mod offer;
+mod policy;
 mod port4500;
 mod refusal;
 mod sequence;
+mod verdict;
 mod wire;
 
 use message::{Payload, Reading};
+use policy::{Book, Choice};
 use refusal::Refusal;
 use sequence::{Key, Loss, Receive, Table};
 use std::io::{self, BufRead, BufReader, BufWriter, Read, Write};
@@ -41,6 +45,11 @@ impl Bench {
             [b"port", message] => Some(port4500::answer(&lines::bytes(message)?)),
             [b"der", element] => Some(der::answer(&lines::bytes(element)?).to_string()),
             [b"read", message] => Some(answer(message::read(&lines::bytes(message)?), reading)),
+            [b"book", book] => Some(answer(policy::book(&lines::bytes(book)?), line_counts)),
+            [b"choose", book, message] => {
+                let (book, message) = (lines::bytes(book)?, lines::bytes(message)?);
+                Some(answer(policy::choose(&book, &message), chosen))
+            }
             [b"identity", exchange, body] => Some(done(identity::check(phase(exchange)?, &lines::bytes(body)?))),
             [b"packet", destination, protocol, integrity, packet] => {
                 let (destination, protocol) = (lines::u32_in_hex(destination)?, lines::decimal(protocol)?);
@@ -90,6 +99,15 @@ fn accepted(outcome: Result<(), Refusal>) -> String {
 fn reading(Reading { exchange, payloads }: Reading) -> String {
     let places = payloads.iter().map(|Payload { kind, start, length }| format!(" {kind}@{start}+{length}"));
     format!("read {exchange} {}{}", payloads.len(), places.collect::<String>())
+}
+
+fn line_counts(Book { main, quick }: Book) -> String {
+    format!("book {} {}", main.len(), quick.len())
+}
+
+fn chosen(Choice { set, line, transforms }: Choice) -> String {
+    let transforms = transforms.iter().map(|number| format!(" {number}"));
+    format!("chosen {set} {line}{}", transforms.collect::<String>())
 }
 
 fn loss(Loss { highest, span, count }: Loss) -> String {
@@ -161,9 +179,19 @@ fn answer_all(input: impl Read, output: &mut impl Write) -> io::Result<()> {
 }
 
 fn main() {
+    let arguments: Vec<String> = std::env::args().skip(1).collect();
+    let input = io::stdin().lock();
     let mut output = BufWriter::new(io::stdout().lock());
-    if let Err(error) = answer_all(io::stdin().lock(), &mut output) {
-        eprintln!("second: cannot read lines or write answers: {error}");
+    let outcome = match arguments.iter().map(String::as_str).collect::<Vec<_>>()[..] {
+        [] => answer_all(input, &mut output),
+        ["verdict"] => verdict::answer(input, &mut output),
+        _ => {
+            eprintln!("usage: second [verdict]");
+            std::process::exit(2);
+        }
+    };
+    if let Err(error) = outcome {
+        eprintln!("second: cannot read its input or write its answers: {error}");
         std::process::exit(1);
     }
 }

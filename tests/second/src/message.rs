@@ -36,6 +36,14 @@ pub struct Payload {
     pub length: usize,
 }
 
+impl Reading {
+    /// The body of the SA payload, if the message that was read has one.
+    pub fn sa_body<'a>(&self, message: &'a [u8]) -> Option<&'a [u8]> {
+        let sa = self.payloads.iter().find(|payload| payload.kind == SA)?;
+        Some(&message[sa.start + PAYLOAD_HEADER_SIZE..sa.start + sa.length])
+    }
+}
+
 pub fn read(message: &[u8]) -> Result<Reading, Refusal> {
     check_header(message)?;
     let exchange = message[18];

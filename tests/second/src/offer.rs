@@ -9,6 +9,11 @@ use crate::refusal::{self, refuse_if, Refusal};
 use crate::wire::{u16_at, u32_at};
 use std::ops::RangeInclusive;
 
+pub const ISAKMP: u8 = 1;
+pub const AH: u8 = 2;
+pub const ESP: u8 = 3;
+
+const OWN_FIELDS_SIZE: usize = 8;
 const MOST_PROPOSALS: usize = 16;
 const TRANSFORM_COUNTS: RangeInclusive<u8> = 1..=8;
 const MOST_ATTRIBUTES: usize = 16;
@@ -35,7 +40,7 @@ struct Rules {
 }
 
 const MAIN_RULES: Rules = Rules {
-    protocols: &[1],
+    protocols: &[ISAKMP],
     spi_size: 0,
     more_proposals: false,
     fixed: &[1, 2, 3, 4, 5, 11, 13, 14, 15, 17, 20],
@@ -43,7 +48,7 @@ const MAIN_RULES: Rules = Rules {
 };
 
 const QUICK_RULES: Rules =
-    Rules { protocols: &[2, 3], spi_size: 4, more_proposals: true, fixed: &[1, 3, 4, 5, 6, 7, 8], life_duration: 2 };
+    Rules { protocols: &[AH, ESP], spi_size: 4, more_proposals: true, fixed: &[1, 3, 4, 5, 6, 7, 8], life_duration: 2 };
 
 /// What later proposals are measured by.
 #[derive(PartialEq)]
@@ -54,10 +59,10 @@ struct Proposed {
 
 pub fn check(exchange: u8, body: &[u8]) -> Result<(), Refusal> {
     let rules = if exchange == MAIN_MODE { &MAIN_RULES } else { &QUICK_RULES };
-    refuse_if(body.len() < 8, refusal::SA_SYNTAX)?;
+    refuse_if(body.len() < OWN_FIELDS_SIZE, refusal::SA_SYNTAX)?;
     refuse_if(u32_at(body, 0) != 1, refusal::DOI)?;
     refuse_if(u32_at(body, 4) != 1, refusal::SITUATION)?;
-    let mut left = &body[8..];
+    let mut left = &body[OWN_FIELDS_SIZE..];
     let mut before = Vec::new();
     loop {
         let length = check_proposal_header(&before, left)?;
@@ -135,4 +140,80 @@ fn check_attributes(rules: &Rules, attributes: &[u8]) -> Result<(), Refusal> {
         left = &left[ATTRIBUTE_HEADER_SIZE + value_size..];
     }
     Ok(())
+}
+
+/// What follows goes through an offer that was checked: its items have the lengths that they say.
+pub struct Proposal<'a> {
+    pub number: u8,
+    pub protocol: u8,
+    transforms: &'a [u8],
+}
+
+pub struct Transform<'a> {
+    pub number: u8,
+    pub id: u8,
+    attributes: &'a [u8],
+}
+
+pub struct Attribute<'a> {
+    pub kind: u16,
+    value: &'a [u8],
+}
+
+pub fn proposals(body: &[u8]) -> impl Iterator<Item = Proposal<'_>> {
+    items(&body[OWN_FIELDS_SIZE..], length_at_2).map(|proposal| Proposal {
+        number: proposal[4],
+        protocol: proposal[5],
+        transforms: &proposal[PROPOSAL_HEADER_SIZE + usize::from(proposal[6])..],
+    })
+}
+
+impl<'a> Proposal<'a> {
+    pub fn transforms(&self) -> impl Iterator<Item = Transform<'a>> {
+        items(self.transforms, length_at_2).map(|transform| Transform {
+            number: transform[4],
+            id: transform[5],
+            attributes: &transform[TRANSFORM_HEADER_SIZE..],
+        })
+    }
+}
+
+impl<'a> Transform<'a> {
+    pub fn attributes(&self) -> impl Iterator<Item = Attribute<'a>> {
+        items(self.attributes, attribute_length).map(|attribute| {
+            let first = u16_at(attribute, 0);
+            let value_at = if first & SENT_FIXED == 0 { ATTRIBUTE_HEADER_SIZE } else { 2 };
+            Attribute { kind: first & !SENT_FIXED, value: &attribute[value_at..] }
+        })
+    }
+}
+
+impl Attribute<'_> {
+    /// Its value as a number, however it is sent; `None` if it has more than four bytes.
+    pub fn number(&self) -> Option<u32> {
+        let number = || self.value.iter().fold(0, |number, &byte| number << 8 | u32::from(byte));
+        (self.value.len() <= 4).then(number)
+    }
+}
+
+/// Items that stand behind each other, each with its length.
+fn items(bytes: &[u8], length: fn(&[u8]) -> usize) -> impl Iterator<Item = &[u8]> {
+    let mut left = bytes;
+    std::iter::from_fn(move || {
+        if left.is_empty() {
+            return None;
+        }
+        let (item, rest) = left.split_at(length(left));
+        left = rest;
+        Some(item)
+    })
+}
+
+fn length_at_2(item: &[u8]) -> usize {
+    u16_at(item, 2).into()
+}
+
+fn attribute_length(attribute: &[u8]) -> usize {
+    let variable = u16_at(attribute, 0) & SENT_FIXED == 0;
+    ATTRIBUTE_HEADER_SIZE + if variable { length_at_2(attribute) } else { 0 }
 }

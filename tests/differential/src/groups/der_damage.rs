@@ -12,6 +12,7 @@ pub const GROUP: Group = Group {
     at_least: 1,
     also: &[],
     in_order: false,
+    occasions: &[],
     kinds: &[
         ("byte changed", byte_changed),
         ("byte removed", byte_removed),

@@ -11,6 +11,7 @@ pub const GROUP: Group = Group {
     at_least: 1,
     also: &[],
     in_order: false,
+    occasions: &[],
     kinds: &[
         ("short lengths in every form", short_lengths),
         ("long lengths in every form", long_lengths),

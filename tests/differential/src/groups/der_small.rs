@@ -11,6 +11,7 @@ pub const GROUP: Group = Group {
     at_least: 1,
     also: &[],
     in_order: false,
+    occasions: &[],
     kinds: &[
         ("every string to 3 bytes", every_string_to_3_bytes),
         ("every string of 4 and 5 bytes", every_string_of_4_and_5_bytes),

@@ -13,6 +13,7 @@ pub const GROUP: Group = Group {
     at_least: 1,
     also: &[],
     in_order: false,
+    occasions: &[],
     kinds: &[
         ("random tree", random_trees),
         ("every tag at every depth", every_tag_at_every_depth),

@@ -14,6 +14,7 @@ pub const GROUP: Group = Group {
     at_least: 50,
     also: &[],
     in_order: false,
+    occasions: &[],
     kinds: &[
         ("lawful identity", lawful_identities),
         ("every type and size", every_type_and_size),

@@ -11,6 +11,7 @@ pub const GROUP: Group = Group {
     at_least: 1,
     also: &[],
     in_order: false,
+    occasions: &[],
     kinds: &[
         ("good line", good_lines),
         ("bad line", bad_lines),

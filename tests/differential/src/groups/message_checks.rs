@@ -18,6 +18,7 @@ pub const GROUP: Group = Group {
     at_least: 50,
     also: &[],
     in_order: false,
+    occasions: &[],
     kinds: &[
         ("message's length", message_lengths),
         ("every version", every_version),

@@ -16,6 +16,7 @@ pub const GROUP: Group = Group {
     at_least: 50,
     also: &[],
     in_order: false,
+    occasions: &[],
     kinds: &[
         ("shape of a figure", shapes_of_the_figures),
         ("informational message", informational_messages),

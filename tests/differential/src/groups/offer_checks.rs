@@ -18,6 +18,7 @@ pub const GROUP: Group = Group {
     at_least: 50,
     also: &[],
     in_order: false,
+    occasions: &[],
     kinds: &[
         ("bytes left for the SA's own fields", bytes_left_for_own_fields),
         ("DOI and situation", doi_and_situation),

@@ -10,6 +10,7 @@ pub const GROUP: Group = Group {
     at_least: 1,
     also: &[],
     in_order: false,
+    occasions: &[],
     kinds: &[
         ("every message to 6 bytes", every_message_to_6_bytes),
         ("every single byte", every_single_byte),

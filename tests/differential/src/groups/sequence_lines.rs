@@ -11,6 +11,7 @@ pub const GROUP: Group = Group {
     at_least: 5,
     also: &["refused 8194", "refused 8197", "refused 24", "refused 8200", "refused 10", "refused 11"],
     in_order: true,
+    occasions: &[],
     kinds: &[
         ("bad line", bad_lines),
         ("good line spoiled", good_lines_spoiled),

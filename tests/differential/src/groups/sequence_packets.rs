@@ -21,6 +21,7 @@ pub const GROUP: Group = Group {
     at_least: 20,
     also: &[],
     in_order: true,
+    occasions: &[],
     kinds: &[
         ("every AH length and length field", every_ah_length),
         ("AH length field at its limits", ah_length_fields_at_their_limits),

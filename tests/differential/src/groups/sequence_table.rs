@@ -24,6 +24,7 @@ pub const GROUP: Group = Group {
     at_least: 50,
     also: &[],
     in_order: true,
+    occasions: &[],
     kinds: &[
         ("absent key", absent_keys),
         ("checks of adding", checks_of_adding),

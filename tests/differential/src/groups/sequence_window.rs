@@ -11,6 +11,7 @@ pub const GROUP: Group = Group {
     at_least: 50,
     also: &[],
     in_order: true,
+    occasions: &[],
     kinds: &[
         ("record before a first `lent new`", record_before_a_first_new),
         ("two numbers after each other", two_numbers),
