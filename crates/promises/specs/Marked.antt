@@ -31,13 +31,14 @@ pub record Example : Type 0 where
 unfoldable pub table : List Example
 table =
     -- M1 the message above reads as shown: exchange 2, one payload, of type 1 at 28 with length 52
-    record { defined = message.shown (message.reading example) 2; printed = done (2 ∷ 1 ∷ 1 ∷ 28 ∷ 52 ∷ []) }
+    record { defined = message.shown (message.reading example) (header.exchangeOf example); printed = done (2 ∷ 1 ∷ 1 ∷ 28 ∷ 52 ∷ []) }
+    ∷ record { defined = message.answer (message.message example); printed = done (2 ∷ 1 ∷ []) }
     -- M2 it is chosen: set 1, line 1, transform 1
     ∷ record { defined = choices.answer (choices.choice mainBook example); printed = done (1 ∷ 1 ∷ 1 ∷ []) }
     -- M3 with `0E11` it is 14
     ∷ record { defined = choices.answer (choices.choice mainBook (set example 79 0x11)); printed = refused 14 }
     -- M4 version byte 0x10 is 6
-    ∷ record { defined = message.shown (message.reading (set example 17 0x10)) 2; printed = refused 6 }
+    ∷ record { defined = message.answer (message.message (set example 17 0x10)); printed = refused 6 }
     -- M5 AH and ESP in set 1 against ESP alone is 14
     ∷ record { defined = choices.answer (choices.choice (quickBook 1) both); printed = refused 14 }
     -- M6 against AH with ESP, with suiting transforms, it is chosen
@@ -58,7 +59,7 @@ table =
     ∷ []
 
 pub marked : map (λ (e : Example). e .defined) table ≡ map (λ (e : Example). e .printed) table
-unfolding table example numberAt allZero tagWrong constructed headSize bodySize contents size list filled element isElement isName attributes.sentFixed attributes.attributeType attributes.attributeSize attributes.outOfBounds attributes.find attributes.attribute attributes.mustBeFixed attributes.fixedWrong attributes.isDuration attributes.durationWrong attributes.attributeCode attributes.attributesCode attributes.attributesLawful transforms.nextWanted transforms.transformWrong transforms.transformCode transforms.transformsCode proposals.proposalWrong proposals.has proposals.with proposals.none proposals.setBefore proposals.orderWrong proposals.protocolWrong proposals.spiWrong proposals.countWrong proposals.transformBytes proposals.innerCode proposals.proposalCode proposals.proposalsCode proposals.offerCode header.lengthWrong header.majorWrong header.minorWrong header.exchangeRefused header.exchangeUnknown header.flagsWrong header.cookieWrong header.messageIdWrong header.padWrong header.noPayload header.headerCode payloads.typeWrong payloads.lengthOut payloads.bodyCode payloads.bodyOf payloads.payloadCode payloads.restCode message.first message.chain message.reading message.shown message.shownPayloads
+unfolding table example numberAt allZero tagWrong constructed headSize bodySize contents size list filled element isElement isName attributes.sentFixed attributes.attributeType attributes.attributeSize attributes.outOfBounds attributes.find attributes.attribute attributes.mustBeFixed attributes.fixedWrong attributes.isDuration attributes.durationWrong attributes.attributeCode attributes.attributesCode attributes.attributesLawful transforms.nextWanted transforms.transformWrong transforms.transformCode transforms.transformsCode proposals.proposalWrong proposals.has proposals.with proposals.none proposals.setBefore proposals.orderWrong proposals.protocolWrong proposals.spiWrong proposals.countWrong proposals.transformBytes proposals.innerCode proposals.proposalCode proposals.proposalsCode proposals.offerCode header.lengthWrong header.majorWrong header.minorWrong header.exchangeRefused header.exchangeUnknown header.flagsWrong header.cookieWrong header.messageIdWrong header.padWrong header.noPayload header.headerCode payloads.typeWrong payloads.lengthOut payloads.bodyCode payloads.bodyOf payloads.payloadCode payloads.restCode message.first message.chain message.reading message.answer message.shown message.shownPayloads
     packetsOf lastOf lossOf answered answeredAll bytesOf receive.judged receive.answer packets.read packets.esp tables.holds tables.isFree tables.first tables.find tables.free tables.entryAt tables.putEntry tables.putKey tables.added tables.judgedAt tables.packetRead tables.packet tables.loss tables.outcome tables.counted ones
     both mainBook quickBook attributes.value attributes.countFrom attributes.attributeCount parts.skip parts.parts parts.firstItem parts.afterItem parts.setEnd parts.firstSet parts.afterSet parts.set parts.setCount parts.proposal parts.proposalCount parts.proposalNumber parts.protocol parts.transformCount parts.transform parts.transformNumber parts.transformId parts.attributesOf books.quickStart books.quickCount books.bookSize books.mainSeconds books.quickAt books.quickProtocols books.quickMode books.quickSeconds books.mainLineLawful books.quickLineLawful books.mainLinesLawful books.quickLinesLawful books.bookInFront books.bookRead suits.present suits.valueIs suits.lifeWithin suits.nothingSurplus suits.mainValues suits.mainSuits suits.quickId suits.quickIntegrity suits.quickSuits suits.transformSuits suits.lowestFrom suits.lowest suits.protocolsAlone suits.protocolsBoth suits.protocolsSuit suits.setSuits choices.lineCount choices.lineFrom choices.firstLine choices.numberOf choices.transformsOf choices.chosen choices.setFrom choices.chooseFrom choices.bodyAt choices.saFrom choices.messageChoice choices.bookChoice choices.choice choices.answer message.counted message.message message.walk message.payloadAt
 marked = refl

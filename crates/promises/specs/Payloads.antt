@@ -17,8 +17,10 @@ use Rattle.wire.proofs.Tests.{never, neither, by-test, passed}
 use Rattle.wire.proofs.Laws.{number-drop}
 use Rattle.message.specs.Header.{exchangeOf, flagsOf, firstPayload, lengthWrong, headerCode}
 use Rattle.message.specs.Payloads.{typeWrong, lengthOut, bodyCode, bodyOf, payloadCode, restCode}
-use Rattle.message.specs.Message.{Reading, refused, payloads, first, chain, reading, walk, payloadAt}
+use Rattle.message.specs.Message.{Reading, refused, payloads, first, chain, reading, walk, payloadAt, answer}
 use Rattle.message.specs.declared.Payload.{Payload}
+use Rattle.message.specs.declared.Message.{Message}
+use Rattle.message.specs.declared.Message.the-variants.{Refused, Read}
 
 abbrev nowhere : Payload
 nowhere = record { kind = 0; start = 0; length = 0 }
@@ -158,3 +160,16 @@ in-line m ps e =
       follows = λ j l. rw (← f .walked j (omega arith), ← f .walked (suc j) l) (walk-start j (firstPayload m) 28 m);
       within = f .inside;
     })
+
+-- ---- no two answers of `read` have the same number and values
+
+abbrev meant : Answer → Message
+meant a = if eqb (length (a .values)) 0 then Refused (a .number) else Read (getD (a .values) 0 0) (getD (a .values) 1 0)
+
+meant-answer : (x : Message) → meant (answer x) ≡ x
+unfolding answer
+meant-answer (Refused number) = refl
+meant-answer (Read exchange count) = refl
+
+pub answer-own : (x y : Message) → answer x ≡ answer y → x ≡ y
+answer-own x y h = sym (meant-answer x) ∙ ap meant h ∙ meant-answer y
