@@ -1,4 +1,5 @@
 pub mod Laws
+mod ReplyWays
 mod BookWays
 mod SuitWays
 mod ChoiceWays

@@ -1,3 +1,4 @@
 pub mod Book
 pub mod Suits
 pub mod Choice
+pub mod Reply

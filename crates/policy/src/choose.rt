@@ -117,7 +117,7 @@ fn body_at(k: u8, m: &[u8]) -> &[u8]
     after(front(after(m, start), length), 4)
 }
 
-fn sa_from(n: u8, k: u8, m: &[u8]) -> &[u8]
+pub(crate) fn sa_from(n: u8, k: u8, m: &[u8]) -> &[u8]
     requires { ⌜ n + k ≤ 255 ⌝ }
     ensures { λ r. ⌜ now r ≡ saFrom n k (now (m .entry)) ⌝ }
 {

@@ -1,6 +1,7 @@
-// The policy: the book, what suits a line of it, and the choice.
+// The policy: the book, what suits a line of it, the choice and the reply.
 pub mod choose;
 pub mod lines;
+pub mod replies;
 mod suits;
 
 use sets::ProposalNumber;
@@ -24,4 +25,10 @@ pub enum Transforms {
 pub enum Choice {
     Refused(u16),
     Chosen(ProposalNumber, LineNumber, Transforms),
+}
+
+// A refusal, or how many bytes were written.
+pub enum Reply {
+    Refused(u16),
+    Written(usize),
 }

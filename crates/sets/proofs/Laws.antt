@@ -4,7 +4,7 @@ use mathlib.Core.Path.{_≡_, refl, sym, ap, _∙_}
 use mathlib.Core.List.{List, [], _∷_, _++_, append-assoc, append-nil, flatten}
 use mathlib.Core.Bool.{true, false}
 use native.Mathlib.Omega.{arith}
-use lib.ListN.{length, getD, drop, length-append, List·getD-append}
+use lib.ListN.{length, getD, take, drop, length-take, length-drop, length-append, List·getD-append}
 use lib.Seq.{getD-append-add, take-append-seam, drop-append-seam}
 use lib.Dec.{ltb, eqb}
 use borrow.Author.Tests.{eqb-true, eqb-false, eq-eqb, lt-ltb, le-ltb}
@@ -12,8 +12,9 @@ use Rattle.wire.specs.Wire.{numberAt}
 use Rattle.wire.specs.Tests.{if_then_else_}
 use Rattle.wire.proofs.Tests.{by-test}
 use Rattle.wire.proofs.Laws.{number-append, number-append-add}
-use Rattle.offer.specs.Proposals.{offerCode}
-use Rattle.sets.specs.Parts.{firstItem, afterItem, setEnd, firstSet, afterSet}
+use Rattle.offer.specs.Proposals.{transformBytes, offerCode}
+use Rattle.sets.specs.Parts.{skip, firstItem, afterItem, setEnd, firstSet, afterSet, numbered, proposal, transformNumbered}
+use Rattle.sets.specs.declared.TransformNumber.{TransformNumber}
 use Rattle.offer.proofs.Laws.{Item, Rising, end, on, offer-reads}
 
 -- ---- the proposals
@@ -182,3 +183,38 @@ parted exchange body h =
       apart = rw (r .whole) at sets;
       at-most = grouped-few 16 (r .items);
     }
+
+-- ---- parts are no longer than the whole
+
+module _ (n : ℕ) (s : List ℕ) where
+  take-within : length (take n s) ≤ length s
+  take-within = omega (arith, length-take n s)
+
+  drop-within : length (drop n s) ≤ length s
+  drop-within = omega (arith, length-drop n s)
+
+numbered-within : (first rest : List ℕ → List ℕ) → ((s : List ℕ) → length (first s) ≤ length s) → ((s : List ℕ) → length (rest s) ≤ length s) →
+    (left number : ℕ) (s : List ℕ) → length (numbered first rest left number s) ≤ length s
+unfolding numbered
+numbered-within first rest f r zero number s = omega arith
+numbered-within first rest f r (suc left) number s =
+    by-test (eqb (getD s 4 0) number) (λ e. rw e (f s)) (λ e. rw e (omega (arith, numbered-within first rest f r left number (rest s), r s)))
+
+first-within : (s : List ℕ) → length (firstItem s) ≤ length s
+unfolding firstItem
+first-within s = take-within (numberAt 2 s 2) s
+
+after-within : (s : List ℕ) → length (afterItem s) ≤ length s
+unfolding afterItem
+after-within s = drop-within (numberAt 2 s 2) s
+
+pub transform-within : (number : TransformNumber) (p : List ℕ) → length (transformNumbered number p) ≤ length p
+unfolding transformNumbered transformBytes
+transform-within number p =
+    omega (arith, numbered-within firstItem afterItem first-within after-within 8 (number .0) (transformBytes p), drop-within (8 + getD p 6 0) (take (numberAt 2 p 2) p), take-within (numberAt 2 p 2) p)
+
+-- the first two proposals lie one behind the other
+pub two-within : (s : List ℕ) → length (proposal 0 s) + length (proposal 1 s) ≤ length s
+unfolding proposal firstItem afterItem skip
+two-within s =
+    omega (arith, length-take (numberAt 2 s 2) s, length-drop (numberAt 2 s 2) s, take-within (numberAt 2 (drop (numberAt 2 s 2) s) 2) (drop (numberAt 2 s 2) s))

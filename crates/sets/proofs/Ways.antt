@@ -9,7 +9,7 @@ use lib.Dec.{ltb, eqb}
 use borrow.Author.Tests.{eq-eqb, ne-eqb, lt-ltb}
 use Rattle.wire.specs.Wire.{numberAt}
 use Rattle.wire.specs.Tests.{if_then_else_}
-use Rattle.sets.specs.Parts.{skip, parts, setEnd}
+use Rattle.sets.specs.Parts.{skip, parts, setEnd, numbered}
 
 -- ---- parts, whatever takes off the first
 
@@ -80,3 +80,25 @@ module _ (left number : ℕ) (s : List ℕ) (at : ℕ) where
 
       pub end-on : (ltb (length s) (at + 8) || not (eqb b number)) ≡ false → (n r : ℕ) → n ≡ numberAt 2 s (at + 2) → r ≡ setEnd (left - 1) number s (at + n) → r ≡ setEnd left number s at
       end-on h n r en e = rw (end-step left number s at may, ← eb, h, ← en) e
+
+-- ---- the part with a number
+
+module _ (first rest : List ℕ → List ℕ) (left number : ℕ) (s : List ℕ) where
+  numbered-step : (left ≡ 0 → ⊥) → numbered first rest left number s ≡ (if eqb (getD s 4 0) number then first s else numbered first rest (left - 1) number (rest s))
+  unfolding numbered
+  numbered-step h = stepped left h
+    where
+      stepped : (n : ℕ) → (n ≡ 0 → ⊥) → numbered first rest n number s ≡ (if eqb (getD s 4 0) number then first s else numbered first rest (n - 1) number (rest s))
+      stepped zero h = absurd (h refl)
+      stepped (suc n) h = let i : suc n - 1 ≡ n = omega arith in rw i
+
+  pub numbered-out : left ≡ 0 → (r : List ℕ) → r ≡ take 0 s → r ≡ numbered first rest left number s
+  unfolding numbered
+  numbered-out z r e = rw z e
+
+  module _ (may : left ≡ 0 → ⊥) (b : ℕ) (eb : b ≡ getD s 4 0) (r : List ℕ) where
+    pub numbered-here : b ≡ number → r ≡ first s → r ≡ numbered first rest left number s
+    numbered-here h e = rw (numbered-step may, ← eb, eq-eqb b number h) e
+
+    pub numbered-on : (b ≡ number → ⊥) → (t : List ℕ) → t ≡ rest s → r ≡ numbered first rest (left - 1) number t → r ≡ numbered first rest left number s
+    numbered-on h t et e = rw (numbered-step may, ← eb, ne-eqb b number h, ← et) e

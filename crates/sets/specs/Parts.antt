@@ -1,6 +1,6 @@
 -- What later layers take out of an SA payload's body that reads. Of any other body these give something, and nothing is said of it.
 use Prim.Native.Nat.{ℕ, zero, suc, _+_}
-use mathlib.Core.List.{List}
+use mathlib.Core.List.{List, []}
 use mathlib.Core.Bool.{Bool, true, false, not, _||_}
 use lib.ListN.{length, getD, take, drop}
 use lib.Dec.{ltb, eqb}
@@ -41,12 +41,21 @@ firstSet s = take (setEnd 16 (getD s 4 0) s 0) s
 unfoldable pub afterSet : List ℕ → List ℕ
 afterSet s = drop (setEnd 16 (getD s 4 0) s 0) s
 
+-- the first part with this number, of at most left: proposals and transforms have their number in byte 4; no bytes where there is none
+unfoldable pub numbered : (List ℕ → List ℕ) → (List ℕ → List ℕ) → ℕ → ℕ → List ℕ → List ℕ
+numbered first rest zero number s = []
+numbered first rest (suc left) number s = if eqb (getD s 4 0) number then first s else numbered first rest left number (rest s)
+
 -- set k of a body, counted from 0: its proposals as bytes; and how many sets there are
 unfoldable pub set : ℕ → List ℕ → List ℕ
 set k body = firstSet (skip afterSet k (drop 8 body))
 
 unfoldable pub setCount : List ℕ → ℕ
 setCount body = parts afterSet 16 (drop 8 body)
+
+-- the set that has this number
+unfoldable pub setNumbered : ProposalNumber → List ℕ → List ℕ
+setNumbered number body = numbered firstSet afterSet 16 (number .0) (drop 8 body)
 
 -- proposal k of a set, counted from 0, and how many it has
 unfoldable pub proposal : ℕ → List ℕ → List ℕ
@@ -70,6 +79,10 @@ transformCount p = getD p 7 0
 
 unfoldable pub transform : ℕ → List ℕ → List ℕ
 transform k p = firstItem (skip afterItem k (transformBytes p))
+
+-- the transform that has this number
+unfoldable pub transformNumbered : TransformNumber → List ℕ → List ℕ
+transformNumbered number p = numbered firstItem afterItem 8 (number .0) (transformBytes p)
 
 -- a transform's number, ID and attributes
 unfoldable pub transformNumber : List ℕ → TransformNumber

@@ -5,7 +5,7 @@ use wire::be16;
 use wire::byte;
 use wire::front;
 ghost use mathlib.Core.Path.{_≡_};
-ghost use Rattle.sets.specs.Parts.{skip, parts, firstItem, afterItem, setEnd, firstSet, afterSet, set, setCount, proposal, proposalCount, proposalNumber, protocol, spi, transformCount, transform, transformNumber, transformId, attributesOf};
+ghost use Rattle.sets.specs.Parts.{skip, parts, firstItem, afterItem, setEnd, firstSet, afterSet, numbered, set, setCount, setNumbered, proposal, proposalCount, proposalNumber, protocol, spi, transformCount, transform, transformNumbered, transformNumber, transformId, attributesOf};
 
 // Proposal numbers and transform numbers are separate countings.
 pub struct ProposalNumber(pub u8);
@@ -95,6 +95,30 @@ fn sets(left: u8, s: &[u8]) -> u8
     1 + sets(left - 1, after_set(s))
 }
 
+fn numbered_item(left: u8, number: u8, s: &[u8]) -> &[u8]
+    ensures { λ r. ⌜ now r ≡ numbered firstItem afterItem left number (now (s .entry)) ⌝ }
+{
+    if left == 0 {
+        return front(s, 0);
+    }
+    if byte(s, 4) == number {
+        return first_item(s);
+    }
+    numbered_item(left - 1, number, after_item(s))
+}
+
+fn numbered_set(left: u8, number: u8, s: &[u8]) -> &[u8]
+    ensures { λ r. ⌜ now r ≡ numbered firstSet afterSet left number (now (s .entry)) ⌝ }
+{
+    if left == 0 {
+        return front(s, 0);
+    }
+    if byte(s, 4) == number {
+        return first_set(s);
+    }
+    numbered_set(left - 1, number, after_set(s))
+}
+
 // The proposals of set k, counted from 0, as bytes.
 pub fn set(k: u8, body: &[u8]) -> &[u8]
     ensures { λ r. ⌜ now r ≡ set k (now (body .entry)) ⌝ }
@@ -107,6 +131,13 @@ pub fn set_count(body: &[u8]) -> u8
     ensures { λ r. ⌜ r ≡ setCount (now (body .entry)) ⌝ }
 {
     sets(16, after(body, 8))
+}
+
+// The proposals of the set that has this number; none where no set has it.
+pub fn set_numbered(number: ProposalNumber, body: &[u8]) -> &[u8]
+    ensures { λ r. ⌜ now r ≡ setNumbered number (now (body .entry)) ⌝ }
+{
+    numbered_set(16, number.0, after(body, 8))
 }
 
 // Proposal k of a set, counted from 0.
@@ -152,6 +183,13 @@ pub fn transform(k: u8, p: &[u8]) -> &[u8]
     ensures { λ r. ⌜ now r ≡ transform k (now (p .entry)) ⌝ }
 {
     first_item(skip_items(k, transform_bytes(p)))
+}
+
+// The transform that has this number; no bytes where none has it.
+pub fn transform_numbered(number: TransformNumber, p: &[u8]) -> &[u8]
+    ensures { λ r. ⌜ now r ≡ transformNumbered number (now (p .entry)) ⌝ }
+{
+    numbered_item(8, number.0, transform_bytes(p))
 }
 
 pub fn transform_number(t: &[u8]) -> TransformNumber

@@ -8,10 +8,10 @@ use native.Mathlib.Omega.{arith, pow-step}
 use native.Mathlib.Numerals.{add-one}
 use native.Mathlib.Nat.{zero-add, add-zero, add-suc, add-assoc, mul-assoc, pow-suc}
 use lib.ListN.{length, getD, take, drop, set, replicate, length-set, length-append, length-take, length-drop, List·getD-eq-default, List·getD-append}
-use lib.Seq.{getD-drop, getD-take, getD-append-add, getD-set-same, getD-set-other, set-out, sets, sets-eq, length-sets, take-at, drop-at, take-set-le, drop-set-lt, length-take-le}
+use lib.Seq.{set-comm, getD-drop, getD-take, getD-append-add, getD-set-same, getD-set-other, set-out, sets, sets-eq, length-sets, take-at, drop-at, take-set-le, drop-set-lt, length-take-le}
 use lib.Dec.{eqb}
 use borrow.Author.Tests.{eqb-true, eq-eqb}
-use Rattle.wire.specs.Wire.{numberAt, bytesOf, allZero, equal, paste}
+use Rattle.wire.specs.Wire.{numberAt, bytesOf, head, headed, allZero, equal, paste, put}
 use Rattle.wire.proofs.Tests.{clash, both}
 
 -- ---- numbers
@@ -83,6 +83,23 @@ number-bytesOf (suc n) x h =
     ap (λ (k : ℕ). getD (bytesOf n (x / 256) ++ (x % 256 ∷ [])) k 0) (omega (arith, length-bytesOf n (x / 256))) ∙ getD-append-add (bytesOf n (x / 256)) (x % 256 ∷ []) 0 0 in
     rw (high, low) (omega arith)
 
+-- ---- what begins with its length
+
+pub length-head : (next size : ℕ) → length (head next size) ≡ 4
+unfolding head
+length-head next size = omega (arith, length-bytesOf 2 size)
+
+pub length-headed : (next : ℕ) (rest : List ℕ) → length (headed next rest) ≡ 4 + length rest
+unfolding headed
+length-headed next rest = length-append (head next (4 + length rest)) rest ∙ omega (arith, length-head next (4 + length rest))
+
+-- it is as long as it says
+pub headed-lies : (next : ℕ) (rest : List ℕ) → 4 + length rest < 65536 → numberAt 2 (headed next rest) 2 ≡ 4 + length rest
+unfolding headed head
+headed-lies next rest h =
+    number-append-add 2 (next ∷ 0 ∷ []) (bytesOf 2 (4 + length rest) ++ rest) 0
+    ∙ number-append 2 (bytesOf 2 (4 + length rest)) rest 0 (omega (arith, length-bytesOf 2 (4 + length rest))) ∙ number-bytesOf 2 (4 + length rest) (omega arith)
+
 -- ---- comparisons
 
 pub equal-same : (s : List ℕ) → equal s s ≡ true
@@ -123,6 +140,19 @@ pub paste-append : (l : List ℕ) (i : ℕ) (xs ys : List ℕ) → paste (paste 
 unfolding paste
 paste-append l i [] ys = ap (λ (k : ℕ). paste l k ys) (omega arith)
 paste-append l i (x ∷ xs) ys = ap (λ (k : ℕ). paste (paste (set l i x) (i + 1) xs) k ys) (omega arith) ∙ paste-append (set l i x) (i + 1) xs ys
+
+-- and so is a run written before another that stands there already
+set-paste : (l : List ℕ) (i x j : ℕ) (ys : List ℕ) → i < j → set (paste l j ys) i x ≡ paste (set l i x) j ys
+unfolding paste
+set-paste l i x j [] h = refl
+set-paste l i x j (y ∷ ys) h = set-paste (set l j y) i x (j + 1) ys (omega arith) ∙ ap (λ (k : List ℕ). paste k (j + 1) ys) (set-comm l j i y x (omega arith))
+
+pub paste-before : (l : List ℕ) (i : ℕ) (xs ys : List ℕ) → paste (paste l (i + length xs) ys) i xs ≡ paste l i (xs ++ ys)
+unfolding paste
+paste-before l i [] ys = ap (λ (k : ℕ). paste l k ys) (omega arith)
+paste-before l i (x ∷ xs) ys =
+    ap (λ (k : List ℕ). paste k (i + 1) xs) (set-paste l i x (i + length (x ∷ xs)) ys (omega arith)) ∙ ap (λ (k : ℕ). paste (paste (set l i x) k ys) (i + 1) xs) (omega arith)
+    ∙ paste-before (set l i x) (i + 1) xs ys
 
 -- a run that fits, as the three parts of the buffer
 paste-sets : (l : List ℕ) (i : ℕ) (xs : List ℕ) → paste l i xs ≡ sets l i xs
@@ -169,3 +199,44 @@ number-written n x l i h g =
 pub number-kept : (n : ℕ) (l : List ℕ) (i : ℕ) (xs : List ℕ) (j : ℕ) → (j + n ≤ i) ⊎ (i + length xs ≤ j) → numberAt n (paste l i xs) j ≡ numberAt n l j
 number-kept n l i xs j h =
     number-agree n (paste l i xs) l j j (λ k b. getD-paste-other l i xs (j + k) (⊎-elim (λ w. inl (omega arith)) (λ w. inr (omega arith)) h))
+
+-- ---- writing one run beside another
+
+pub put-size : (l b : List ℕ) (i n : ℕ) (xs : List ℕ) → put l i xs ≡ (n, b) → length xs ≡ n
+unfolding put
+put-size l b i n xs e = ap (λ (p : ℕ × List ℕ). p .0) e
+
+module _ (l b c : List ℕ) (i n : ℕ) where
+  pub put-after : (xs ys : List ℕ) (m : ℕ) → put l i xs ≡ (n, b) → put b (i + n) ys ≡ (m, c) → put l i (xs ++ ys) ≡ (n + m, c)
+  unfolding put
+  put-after xs ys m e f =
+      let en : length xs ≡ n = ap (λ (p : ℕ × List ℕ). p .0) e in
+      let eb : paste l i xs ≡ b = ap (λ (p : ℕ × List ℕ). p .1) e in
+      let em : length ys ≡ m = ap (λ (p : ℕ × List ℕ). p .0) f in
+      let ec : paste b (i + n) ys ≡ c = ap (λ (p : ℕ × List ℕ). p .1) f in
+      rw (length-append xs ys, ← paste-append l i xs ys, en, em, eb, ec)
+
+  pub put-before : (xs ys : List ℕ) → put l (i + length xs) ys ≡ (n, b) → c ≡ paste b i xs → put l i (xs ++ ys) ≡ (length xs + n, c)
+  unfolding put
+  put-before xs ys e f =
+      let en : length ys ≡ n = ap (λ (p : ℕ × List ℕ). p .0) e in
+      let eb : paste l (i + length xs) ys ≡ b = ap (λ (p : ℕ × List ℕ). p .1) e in
+      rw (length-append xs ys, ← paste-before l i xs ys, en, eb, ← f)
+
+  -- a head written last, or first
+  pub put-head-last : (next : ℕ) (rest : List ℕ) → put l (i + 4) rest ≡ (n, b) → c ≡ paste b i (head next (4 + n)) → put l i (headed next rest) ≡ (4 + n, c)
+  unfolding put headed
+  put-head-last next rest e f =
+      let en : length rest ≡ n = ap (λ (p : ℕ × List ℕ). p .0) e in
+      rw en (put-before (head next (4 + n)) rest (rw (length-head next (4 + n)) e) f ∙ ap (λ (k : ℕ). (k + n, c)) (length-head next (4 + n)))
+
+  pub put-head-first : (next : ℕ) (rest : List ℕ) → b ≡ paste l i (head next (4 + length rest)) → c ≡ paste b (i + 4) rest → put l i (headed next rest) ≡ (4 + length rest, c)
+  unfolding put headed
+  put-head-first next rest e f =
+      let four : length (head next (4 + length rest)) ≡ 4 = length-head next (4 + length rest) in
+      rw (length-append (head next (4 + length rest)) rest, ← paste-append l i (head next (4 + length rest)) rest, four, ← e, ← f)
+
+  -- and nowhere
+  pub put-headed-past : (next : ℕ) (rest : List ℕ) → length l ≤ i → put l i (headed next rest) ≡ (4 + length rest, l)
+  unfolding put
+  put-headed-past next rest h = rw (length-headed next rest, paste-past l i (headed next rest) h)

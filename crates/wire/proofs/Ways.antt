@@ -9,7 +9,7 @@ use lib.ListN.{length, getD, drop, set, drop-of-length-le}
 use lib.Seq.{drop-cons}
 use lib.Dec.{eqb}
 use borrow.Author.Tests.{eq-eqb, ne-eqb}
-use Rattle.wire.specs.Wire.{numberAt, bytesOf, allZero, equal, paste}
+use Rattle.wire.specs.Wire.{numberAt, bytesOf, head, allZero, equal, paste}
 use Rattle.wire.proofs.Laws.{number-join, number-one, number-past, two-bytes, four-bytes, paste-past}
 
 -- ---- big-endian numbers
@@ -30,6 +30,10 @@ module _ (x i : ℕ) (buffer written : List ℕ) where
 
   pub four-written : written ≡ paste buffer i (x / 16777216 % 256 ∷ x / 65536 % 256 ∷ x / 256 % 256 ∷ x % 256 ∷ []) → written ≡ paste buffer i (bytesOf 4 x)
   four-written h = rw (four-bytes x) h
+
+  pub head-written : (next : ℕ) → written ≡ paste buffer i (next ∷ 0 ∷ x / 256 % 256 ∷ x % 256 ∷ []) → written ≡ paste buffer i (head next x)
+  unfolding head
+  head-written next h = rw (two-bytes x) h
 
 -- ---- loops
 

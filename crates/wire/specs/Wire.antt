@@ -3,7 +3,7 @@
 use Prim.Native.Nat.{ℕ, zero, suc, _+_, _*_, _/_, _%_}
 use mathlib.Core.List.{List, [], _∷_, _++_}
 use mathlib.Core.Bool.{Bool, true, false, _&&_}
-use lib.ListN.{getD, set}
+use lib.ListN.{length, getD, set}
 use lib.Dec.{eqb}
 
 -- the number that the n bytes at i spell, the highest first; a byte past the end counts as 0
@@ -15,6 +15,13 @@ numberAt (suc n) s i = numberAt n s i * 256 + getD s (i + n) 0
 unfoldable pub bytesOf : ℕ → ℕ → List ℕ
 bytesOf zero x = []
 bytesOf (suc n) x = bytesOf n (x / 256) ++ (x % 256 ∷ [])
+
+-- payloads, proposals and transforms begin alike: next (1 byte), reserved (1, zero), length (2)
+unfoldable pub head : ℕ → ℕ → List ℕ
+head next size = next ∷ 0 ∷ bytesOf 2 size
+
+unfoldable pub headed : ℕ → List ℕ → List ℕ
+headed next rest = head next (4 + length rest) ++ rest
 
 -- every byte is zero
 unfoldable pub allZero : List ℕ → Bool
@@ -32,3 +39,7 @@ equal (a ∷ s) (b ∷ t) = eqb a b && equal s t
 unfoldable pub paste : List ℕ → ℕ → List ℕ → List ℕ
 paste buffer i [] = buffer
 paste buffer i (x ∷ xs) = paste (set buffer i x) (i + 1) xs
+
+-- writing bytes at a place: how many they are, and the buffer after it
+unfoldable pub put : List ℕ → ℕ → List ℕ → ℕ × List ℕ
+put buffer i xs = (length xs, paste buffer i xs)

@@ -3,7 +3,7 @@
 ghost use mathlib.Core.Path.{_≡_};
 ghost use mathlib.Core.List.{List, [], _∷_};
 ghost use lib.ListN.{getD, take, drop};
-ghost use Rattle.wire.specs.Wire.{numberAt, bytesOf, allZero, equal, paste};
+ghost use Rattle.wire.specs.Wire.{numberAt, bytesOf, head, headed, allZero, equal, paste, put};
 
 // The byte at a place.
 pub fn byte(s: &[u8], at: usize) -> u8
@@ -123,4 +123,28 @@ pub fn put_be32(buffer: &mut [u8], at: usize, x: u32)
             (x % 256) as u8,
         ],
     );
+}
+
+// Writes what a payload, a proposal and a transform begin with: next, reserved, and the length.
+pub fn put_head(buffer: &mut [u8], at: usize, next: u8, size: usize)
+    ensures { λ _. ⌜ now (buffer .exit) ≡ paste (now (buffer .entry)) at (head next size) ⌝ }
+{
+    put_bytes(
+        buffer,
+        at,
+        &[next, 0, (size / 256 % 256) as u8, (size % 256) as u8],
+    );
+}
+
+// Writes that and what follows it; says how many bytes these are.
+pub fn put_headed(buffer: &mut [u8], at: usize, next: u8, rest: &[u8]) -> usize
+    ensures { λ r. ⌜ put (now (buffer .entry)) at (headed next (now (rest .entry))) ≡ (r, now (buffer .exit)) ⌝ }
+{
+    let size = 4 + rest.len();
+    if buffer.len() <= at {
+        return size;
+    }
+    put_head(buffer, at, next, size);
+    put_bytes(buffer, at + 4, rest);
+    size
 }

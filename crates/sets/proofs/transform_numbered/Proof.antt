@@ -1,0 +1,9 @@
+use Rattle.sets.specs.Parts.{transformNumbered}
+use borrow.Author.Needs.{needs}
+use Rattle.sets.proofs.transform_numbered.Statement.{statement}
+use Rattle.sets.proofs.transform_numbered.Tie as tie
+
+pub transform-numbered-spec : {M : Type 1} → statement M
+unfolding transformNumbered
+transform-numbered-spec =
+    tie.close (tie.spec (λ c κs. search needs) (λ c κs. search needs) (λ c. cc))
