@@ -1,9 +1,8 @@
 // The receive record of one life: the highest accepted number, and which of the 64 numbers up to it were accepted. It goes in by
 // value and comes back; `step_in_place` is the same step where the caller's record stands.
 ghost use mathlib.Core.Path.{_≡_};
-ghost use mathlib.Core.Bool.{false};
-ghost use Prim.Native.Nat.{min};
-ghost use Rattle.sequence.specs.Receive.{fresh, behind, acceptedBefore, shifted, taken, judged, lossLine};
+ghost use Prim.Native.Nat.{min, _<_, _≤_};
+ghost use Rattle.sequence.specs.Receive.{fresh, behind, shifted, judged, lossLine};
 
 // A number's place in the window is how far it lies below the highest: bit 0 of the window is the highest itself.
 #[repr(C)]
@@ -45,23 +44,6 @@ fn behind(highest: u64, number: u32) -> bool
     (number == 0) | (number as u64 + 64 <= highest)
 }
 
-fn accepted_before(r: Receive, number: u32) -> bool
-    ensures { λ b. ⌜ b ≡ acceptedBefore r number ⌝ }
-{
-    let highest = r.highest;
-    let window = r.window;
-    let n = number as u64;
-    if highest < n {
-        return false;
-    }
-    let place = highest - n;
-    if place < 64 {
-        (window >> place) % 2 == 1
-    } else {
-        false
-    }
-}
-
 // The window moved up by so many places; what goes past its end is dropped.
 fn shifted(window: u64, places: u64) -> u64
     ensures { λ w. ⌜ w ≡ shifted window places ⌝ }
@@ -69,38 +51,45 @@ fn shifted(window: u64, places: u64) -> u64
     if places < 64 { window << places } else { 0 }
 }
 
-// The record with a number taken that is neither behind the window nor accepted before.
-fn taken(r: Receive, number: u32) -> Receive
-    requires { ⌜ (behind (r .highest) number ≡ false) × (acceptedBefore r number ≡ false) ⌝ }
-    ensures { λ q. ⌜ q ≡ taken r number ⌝ }
+// The step of a number above the highest, as most are: it is neither behind the window nor accepted before, so neither is tested.
+fn step_above(r: Receive, number: u32, whole: bool) -> Judged
+    requires { ⌜ r .highest < number ⌝ }
+    ensures { λ j. ⌜ j ≡ judged r number whole ⌝ }
 {
     let highest = r.highest;
     let window = r.window;
     let n = number as u64;
-    if highest < n {
-        return Receive {
-            highest: n,
-            window: shifted(window, n - highest) + 1,
+    if !whole {
+        return Judged {
+            receive: r,
+            verdict: Verdict::Refused(24),
         };
     }
-    Receive {
-        highest,
-        window: window + (1 << (highest - n)),
+    Judged {
+        receive: Receive {
+            highest: n,
+            window: shifted(window, n - highest) + 1,
+        },
+        verdict: Verdict::Accepted,
     }
 }
 
-// What a packet with this number does to the record; whole says that its integrity holds.
-pub fn step(r: Receive, number: u32, whole: bool) -> Judged
+// The step of any other number.
+fn step_not_above(r: Receive, number: u32, whole: bool) -> Judged
+    requires { ⌜ number ≤ r .highest ⌝ }
     ensures { λ j. ⌜ j ≡ judged r number whole ⌝ }
 {
     let highest = r.highest;
+    let window = r.window;
     if behind(highest, number) {
         return Judged {
             receive: r,
             verdict: Verdict::Refused(8197),
         };
     }
-    if accepted_before(r, number) {
+    let place = highest - number as u64;
+    let accepted_before = (window >> place) % 2 == 1;
+    if accepted_before {
         return Judged {
             receive: r,
             verdict: Verdict::Refused(8194),
@@ -113,9 +102,24 @@ pub fn step(r: Receive, number: u32, whole: bool) -> Judged
         };
     }
     Judged {
-        receive: taken(r, number),
+        receive: Receive {
+            highest,
+            window: window + (1 << place),
+        },
         verdict: Verdict::Accepted,
     }
+}
+
+// What a packet with this number does to the record; whole says that its integrity holds.
+pub fn step(r: Receive, number: u32, whole: bool) -> Judged
+    ensures { λ j. ⌜ j ≡ judged r number whole ⌝ }
+{
+    let highest = r.highest;
+    // By a return and not an else: compiled so, the two ways stay apart to the end, and a step is a fifth shorter.
+    if highest < number as u64 {
+        return step_above(r, number, whole);
+    }
+    step_not_above(r, number, whole)
 }
 
 // How many numbers a loss line looks at.
