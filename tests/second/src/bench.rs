@@ -1,0 +1,214 @@
+//! The lines of `bench`: takes them in and gives their answers out.
+
+use crate::message::{self, Payload, Reading};
+use crate::policy::{self, Book, Choice};
+use crate::refusal::Refusal;
+use crate::sequence::{Key, Loss, Receive, Table};
+use crate::{der, identity, lines, port4500};
+use std::io::{self, BufRead, BufReader, Read, Write};
+
+const LONGEST_LINE: usize = 65_535;
+const LINE_END: u8 = b'\n';
+
+/// Everything that lines can change.
+#[derive(Default)]
+pub struct Bench {
+    table: Table,
+    lent: Receive,
+}
+
+impl Bench {
+    /// The answer to a line without its line end, or `None` where it gets no answer.
+    pub fn answer(&mut self, line: &[u8]) -> Option<String> {
+        if line.is_empty() || line[0] == b'#' {
+            return None;
+        }
+        let understood = if line.len() > LONGEST_LINE { None } else { self.understand(&lines::words(line)) };
+        Some(understood.unwrap_or_else(|| "bad line".to_string()))
+    }
+
+    fn understand(&mut self, words: &[&[u8]]) -> Option<String> {
+        match words {
+            [b"port", message] => Some(port4500::answer(&lines::bytes(message)?)),
+            [b"der", element] => Some(der::answer(&lines::bytes(element)?).to_string()),
+            [b"read", message] => Some(answer(message::read(&lines::bytes(message)?), reading)),
+            [b"book", book] => Some(answer(policy::book(&lines::bytes(book)?), line_counts)),
+            [b"choose", book, message] => {
+                let (book, message) = (lines::bytes(book)?, lines::bytes(message)?);
+                Some(answer(policy::choose(&book, &message), chosen))
+            }
+            [b"identity", exchange, body] => Some(done(identity::check(phase(exchange)?, &lines::bytes(body)?))),
+            [b"packet", destination, protocol, integrity, packet] => {
+                let (destination, protocol) = (lines::u32_in_hex(destination)?, lines::decimal(protocol)?);
+                let (integrity, packet) = (lines::yes_or_no(integrity)?, lines::bytes(packet)?);
+                Some(accepted(self.table.packet(destination, protocol, integrity, &packet)))
+            }
+            [verb, destination, protocol, spi] => self.entry(verb, key(destination, protocol, spi)?),
+            [b"lent", b"new"] => {
+                self.lent = Receive::default();
+                Some("done".to_string())
+            }
+            [b"lent", b"loss"] => Some(loss(self.lent.loss())),
+            [b"lent", number, integrity] => {
+                let (number, integrity) = (lines::decimal(number)?, lines::yes_or_no(integrity)?);
+                Some(accepted(self.lent.step(number, integrity)))
+            }
+            _ => None,
+        }
+    }
+
+    fn entry(&mut self, verb: &[u8], key: Key) -> Option<String> {
+        match verb {
+            b"add" => Some(done(self.table.add(key))),
+            b"remove" => Some(done(self.table.remove(key))),
+            b"send" => Some(answer(self.table.send(key), |number| format!("number {number}"))),
+            b"loss" => Some(answer(self.table.loss(key), loss)),
+            _ => None,
+        }
+    }
+}
+
+fn answer<Values>(outcome: Result<Values, Refusal>, show: impl FnOnce(Values) -> String) -> String {
+    match outcome {
+        Ok(values) => show(values),
+        Err(number) => format!("refused {number}"),
+    }
+}
+
+fn done(outcome: Result<(), Refusal>) -> String {
+    answer(outcome, |()| "done".to_string())
+}
+
+fn accepted(outcome: Result<(), Refusal>) -> String {
+    answer(outcome, |()| "accepted".to_string())
+}
+
+fn reading(Reading { exchange, payloads }: Reading) -> String {
+    let places = payloads.iter().map(|Payload { kind, start, length }| format!(" {kind}@{start}+{length}"));
+    format!("read {exchange} {}{}", payloads.len(), places.collect::<String>())
+}
+
+fn line_counts(Book { main, quick }: Book) -> String {
+    format!("book {} {}", main.len(), quick.len())
+}
+
+fn chosen(Choice { set, line, transforms }: Choice) -> String {
+    let transforms = transforms.iter().map(|number| format!(" {number}"));
+    format!("chosen {set} {line}{}", transforms.collect::<String>())
+}
+
+fn loss(Loss { highest, span, count }: Loss) -> String {
+    format!("loss {highest} {span} {count}")
+}
+
+fn key(destination: &[u8], protocol: &[u8], spi: &[u8]) -> Option<Key> {
+    let (destination, protocol) = (lines::u32_in_hex(destination)?, lines::decimal(protocol)?);
+    Some(Key { destination, protocol, spi: lines::u32_in_hex(spi)? })
+}
+
+/// The exchanges that have identities.
+fn phase(word: &[u8]) -> Option<u8> {
+    match word {
+        b"2" => Some(message::MAIN_MODE),
+        b"32" => Some(message::QUICK_MODE),
+        _ => None,
+    }
+}
+
+/// A line as it comes in, piece by piece.
+#[derive(Default)]
+struct Line(Vec<u8>);
+
+impl Line {
+    /// One byte over the longest line is kept, so that a longer one shows; the rest would not matter.
+    fn add(&mut self, piece: &[u8]) {
+        let room = LONGEST_LINE + 1 - self.0.len();
+        self.0.extend_from_slice(&piece[..piece.len().min(room)]);
+    }
+}
+
+fn write_answer(bench: &mut Bench, line: &mut Line, output: &mut impl Write) -> io::Result<()> {
+    if let Some(answer) = bench.answer(&line.0) {
+        writeln!(output, "{answer}")?;
+    }
+    line.0.clear();
+    Ok(())
+}
+
+/// Answers are handed on before more input is waited for, so that a caller may write a line and read its answer.
+pub fn answer_all(input: impl Read, output: &mut impl Write) -> io::Result<()> {
+    let mut input = BufReader::with_capacity(65_536, input);
+    let mut bench = Bench::default();
+    let mut line = Line::default();
+    loop {
+        if input.buffer().is_empty() {
+            output.flush()?;
+        }
+        let piece = input.fill_buf()?;
+        if piece.is_empty() {
+            break;
+        }
+        let used = match piece.iter().position(|&byte| byte == LINE_END) {
+            Some(at) => {
+                line.add(&piece[..at]);
+                write_answer(&mut bench, &mut line, output)?;
+                at + 1
+            }
+            None => {
+                line.add(piece);
+                piece.len()
+            }
+        };
+        input.consume(used);
+    }
+    write_answer(&mut bench, &mut line, output)?;
+    output.flush()
+}
+
+#[cfg(test)]
+mod tests {
+    use super::*;
+    use std::cell::RefCell;
+    use std::io::BufWriter;
+
+    /// Hands out a line at a time, and each only when those before it are answered.
+    struct Caller<'a> {
+        lines: &'a [&'a [u8]],
+        written: &'a RefCell<Vec<u8>>,
+        handed_out: usize,
+    }
+
+    impl Read for Caller<'_> {
+        fn read(&mut self, room: &mut [u8]) -> io::Result<usize> {
+            let line_ends = self.written.borrow().iter().filter(|&&byte| byte == LINE_END).count();
+            assert_eq!(line_ends, self.handed_out, "an answer is held back");
+            let Some(line) = self.lines.get(self.handed_out) else {
+                return Ok(0);
+            };
+            self.handed_out += 1;
+            room[..line.len()].copy_from_slice(line);
+            Ok(line.len())
+        }
+    }
+
+    struct Answers<'a>(&'a RefCell<Vec<u8>>);
+
+    impl Write for Answers<'_> {
+        fn write(&mut self, bytes: &[u8]) -> io::Result<usize> {
+            self.0.borrow_mut().write(bytes)
+        }
+
+        fn flush(&mut self) -> io::Result<()> {
+            Ok(())
+        }
+    }
+
+    #[test]
+    fn a_caller_gets_each_answer_before_writing_the_next_line() {
+        let written = RefCell::new(Vec::new());
+        let mut output = BufWriter::new(Answers(&written));
+        let caller = Caller { lines: &[b"der 3000\n", b"port ff\n", b"der 30\n"], written: &written, handed_out: 0 };
+        answer_all(caller, &mut output).unwrap();
+        assert_eq!(written.borrow().as_slice(), b"name\nkeepalive\nnone\n");
+    }
+}

@@ -1,0 +1,15 @@
+//! The second program, written from document 01 alone. Each rule has a room of its own; `bench` and `verdict` are what a
+//! caller sees of them. It is a library so that the makers of test lines can use what it writes.
+
+pub mod bench;
+mod der;
+mod identity;
+mod lines;
+mod message;
+mod offer;
+mod policy;
+mod port4500;
+mod refusal;
+mod sequence;
+pub mod verdict;
+mod wire;
