@@ -3,6 +3,7 @@
 use crate::message::{self, Payload, Reading};
 use crate::policy::{self, Book, Choice};
 use crate::refusal::Refusal;
+use crate::reply::{self, Spis};
 use crate::sequence::{Key, Loss, Receive, Table};
 use crate::{der, identity, lines, port4500};
 use std::io::{self, BufRead, BufReader, Read, Write};
@@ -36,6 +37,11 @@ impl Bench {
             [b"choose", book, message] => {
                 let (book, message) = (lines::bytes(book)?, lines::bytes(message)?);
                 Some(answer(policy::choose(&book, &message), chosen))
+            }
+            [b"reply", book, ah, esp, room, message] => {
+                let (book, message) = (lines::bytes(book)?, lines::bytes(message)?);
+                let own = Spis { ah: lines::decimal(ah)?, esp: lines::decimal(esp)? };
+                Some(answer(reply::alone(&book, own, lines::room(room)?, &message), written))
             }
             [b"identity", exchange, body] => Some(done(identity::check(phase(exchange)?, &lines::bytes(body)?))),
             [b"packet", destination, protocol, integrity, packet] => {
@@ -92,9 +98,13 @@ fn line_counts(Book { main, quick }: Book) -> String {
     format!("book {} {}", main.len(), quick.len())
 }
 
-fn chosen(Choice { set, line, transforms }: Choice) -> String {
-    let transforms = transforms.iter().map(|number| format!(" {number}"));
+fn chosen(Choice { set, line, taken }: Choice) -> String {
+    let transforms = taken.iter().map(|taken| format!(" {}", taken.transform.number));
     format!("chosen {set} {line}{}", transforms.collect::<String>())
+}
+
+fn written(reply: Vec<u8>) -> String {
+    format!("reply {}", lines::word(&reply))
 }
 
 fn loss(Loss { highest, span, count }: Loss) -> String {

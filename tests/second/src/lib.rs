@@ -10,6 +10,8 @@ mod offer;
 mod policy;
 mod port4500;
 mod refusal;
+mod reply;
 mod sequence;
 pub mod verdict;
 mod wire;
+mod write;

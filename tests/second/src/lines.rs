@@ -2,6 +2,8 @@
 
 use std::str::{self, FromStr};
 
+pub const LARGEST_ROOM: usize = 4_096;
+
 /// Words are parted by single spaces: a space at either end or a second one makes an empty word, which suits nothing.
 pub fn words(line: &[u8]) -> Vec<&[u8]> {
     line.split(|&byte| byte == b' ').collect()
@@ -18,6 +20,16 @@ pub fn bytes(word: &[u8]) -> Option<Vec<u8>> {
     word.chunks(2).map(|pair| Some(digit(pair[0])? << 4 | digit(pair[1])?)).collect()
 }
 
+/// Bytes as a word of a line.
+pub fn word(bytes: &[u8]) -> String {
+    const DIGITS: &[u8; 16] = b"0123456789abcdef";
+    if bytes.is_empty() {
+        return "-".to_string();
+    }
+    let digits = |byte: &u8| [DIGITS[usize::from(byte >> 4)], DIGITS[usize::from(byte & 15)]];
+    bytes.iter().flat_map(digits).map(char::from).collect()
+}
+
 /// Four bytes in hex.
 pub fn u32_in_hex(word: &[u8]) -> Option<u32> {
     bytes(word)?.try_into().ok().map(u32::from_be_bytes)
@@ -27,6 +39,11 @@ pub fn u32_in_hex(word: &[u8]) -> Option<u32> {
 pub fn decimal<Number: FromStr>(word: &[u8]) -> Option<Number> {
     let lawful = word == b"0" || word.first() != Some(&b'0') && word.iter().all(u8::is_ascii_digit);
     str::from_utf8(word).ok().filter(|_| lawful)?.parse().ok()
+}
+
+/// The size of a lent buffer.
+pub fn room(word: &[u8]) -> Option<usize> {
+    decimal(word).filter(|&size| size <= LARGEST_ROOM)
 }
 
 pub fn yes_or_no(word: &[u8]) -> Option<bool> {

@@ -20,11 +20,11 @@ const MOST_ATTRIBUTES: usize = 16;
 const PROPOSAL_HEADER_SIZE: usize = 8;
 const TRANSFORM_HEADER_SIZE: usize = 8;
 const ATTRIBUTE_HEADER_SIZE: usize = 4;
-const LOWEST_SPI: u32 = 256;
+pub const LOWEST_SPI: u32 = 256;
 const DURATION_SIZES: RangeInclusive<usize> = 1..=4;
 
-const NONE_NEXT: u8 = 0;
-const PROPOSAL_NEXT: u8 = 2;
+pub const NONE_NEXT: u8 = 0;
+pub const PROPOSAL_NEXT: u8 = 2;
 const TRANSFORM_NEXT: u8 = 3;
 
 /// A high bit says how an attribute is sent; its type is what is below.
@@ -152,6 +152,8 @@ pub struct Proposal<'a> {
 pub struct Transform<'a> {
     pub number: u8,
     pub id: u8,
+    /// All of it, with its own fields.
+    pub bytes: &'a [u8],
     attributes: &'a [u8],
 }
 
@@ -173,6 +175,7 @@ impl<'a> Proposal<'a> {
         items(self.transforms, length_at_2).map(|transform| Transform {
             number: transform[4],
             id: transform[5],
+            bytes: transform,
             attributes: &transform[TRANSFORM_HEADER_SIZE..],
         })
     }

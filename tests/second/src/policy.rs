@@ -26,11 +26,17 @@ pub enum Line {
     AhWithEsp { mode: u32, seconds: u32 },
 }
 
-/// The set's proposal number, the line counted from 1, the transform numbers in the offer's order.
-pub struct Choice {
+/// The set's proposal number, the line counted from 1, what is taken of each proposal in the offer's order.
+pub struct Choice<'a> {
     pub set: u8,
     pub line: usize,
-    pub transforms: Vec<u8>,
+    pub taken: Vec<Taken<'a>>,
+}
+
+/// A proposal of the chosen set: its protocol and its lowest suiting transform.
+pub struct Taken<'a> {
+    pub protocol: u8,
+    pub transform: Transform<'a>,
 }
 
 /// A book by itself, with no bytes left over.
@@ -73,22 +79,22 @@ fn quick_line(bytes: &[u8]) -> Option<Line> {
 }
 
 /// "Checks: book, message, no SA payload (16), then 14."
-pub fn choose(book_bytes: &[u8], message: &[u8]) -> Result<Choice, Refusal> {
+pub fn choose<'a>(book_bytes: &[u8], message: &'a [u8]) -> Result<Choice<'a>, Refusal> {
     let book = book(book_bytes)?;
     let reading = message::read(message)?;
     choose_from(&book, message, &reading)
 }
 
 /// A message that was read has one SA payload at most.
-pub fn choose_from(book: &Book, message: &[u8], reading: &Reading) -> Result<Choice, Refusal> {
+pub fn choose_from<'a>(book: &Book, message: &'a [u8], reading: &Reading) -> Result<Choice<'a>, Refusal> {
     let body = reading.sa_body(message).ok_or(refusal::MALFORMED)?;
     let lines = if reading.exchange == MAIN_MODE { &book.main } else { &book.quick };
     let proposals: Vec<_> = offer::proposals(body).collect();
     // Proposals with equal number stand behind each other, as numbers do not fall.
     for set in proposals.chunk_by(|one, next| one.number == next.number) {
         for (line, place) in lines.iter().zip(1..) {
-            if let Some(transforms) = suiting(set, line) {
-                return Ok(Choice { set: set[0].number, line: place, transforms });
+            if let Some(taken) = suiting(set, line) {
+                return Ok(Choice { set: set[0].number, line: place, taken });
             }
         }
     }
@@ -96,15 +102,15 @@ pub fn choose_from(book: &Book, message: &[u8], reading: &Reading) -> Result<Cho
 }
 
 /// The lowest suiting transform of every proposal, if the set suits the line.
-fn suiting(set: &[Proposal], line: &Line) -> Option<Vec<u8>> {
+fn suiting<'a>(set: &[Proposal<'a>], line: &Line) -> Option<Vec<Taken<'a>>> {
     // A protocol stands in a set once, and one that the line does not have has no suiting transform.
     if set.len() != line.protocols() {
         return None;
     }
-    let lowest = |proposal: &Proposal| {
-        let mut transforms = proposal.transforms();
-        let suits = transforms.find(|transform| line.suits(proposal.protocol, transform));
-        suits.map(|transform| transform.number)
+    let lowest = |proposal: &Proposal<'a>| {
+        let protocol = proposal.protocol;
+        let transform = proposal.transforms().find(|transform| line.suits(protocol, transform))?;
+        Some(Taken { protocol, transform })
     };
     set.iter().map(lowest).collect()
 }

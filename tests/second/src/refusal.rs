@@ -22,6 +22,7 @@ pub const CERTIFICATE_ENCODING: Refusal = 19;
 pub const INTEGRITY: Refusal = 24;
 pub const EXCHANGE_1_OR_3: Refusal = 29;
 pub const LENGTHS: Refusal = 30;
+pub const ROOM: Refusal = 8_192;
 pub const BOOK: Refusal = 8_193;
 pub const ACCEPTED_BEFORE: Refusal = 8_194;
 pub const ZERO_OR_BEHIND: Refusal = 8_197;

@@ -36,8 +36,8 @@ fn lines(bytes: &[u8]) -> Result<String, Refusal> {
     Ok(lines)
 }
 
-fn chosen(Choice { set, line, transforms }: Choice) -> String {
-    let transforms: String = transforms.iter().map(|number| format!(" {number}")).collect();
+fn chosen(Choice { set, line, taken }: Choice) -> String {
+    let transforms: String = taken.iter().map(|taken| format!(" {}", taken.transform.number)).collect();
     format!("chosen set {set} line {line} transforms{transforms}\n")
 }
 
