@@ -1,6 +1,7 @@
 //! A case: lines for both programs, and what is known about their answers.
 
 use crate::message::Message;
+use crate::offer::Offer;
 
 pub struct Case {
     /// What it tries, in the words in which a difference is shown.
@@ -13,8 +14,8 @@ pub struct Case {
     pub answers: Vec<Option<String>>,
     /// Whether it gets programs of its own, because the end of input matters.
     pub alone: bool,
-    /// For each proposal that is offered its number and that of its first transform, where answers are counted by them.
-    pub firsts: Vec<(u8, u8)>,
+    /// What is offered, where the message can be read and answers are counted by it.
+    pub offer: Option<Offer>,
 }
 
 impl Case {
@@ -87,10 +88,8 @@ impl Cases {
     /// The same with a message that can be read and has an offer.
     pub fn choose_offered(&mut self, book: &[u8], message: &Message, answer: Option<String>) {
         self.choose(book, &message.encode(), answer);
-        let offers = message.payloads.iter().filter_map(|payload| payload.offer());
-        let proposals = offers.flat_map(|offer| &offer.proposals);
-        let firsts = proposals.map(|proposal| (proposal.number, proposal.transforms[0].number));
-        self.made.last_mut().expect("it was made").firsts = firsts.collect();
+        let offer = message.payloads.iter().find_map(|payload| payload.offer());
+        self.made.last_mut().expect("it was made").offer = offer.cloned();
     }
 
     fn line(&mut self, verb: &str, bytes: &[u8], answer: Option<String>) {
@@ -109,14 +108,7 @@ impl Cases {
     }
 
     fn add(&mut self, input: Vec<u8>, answers: Vec<Option<String>>, alone: bool) {
-        self.made.push(Case {
-            kind: self.kind,
-            detail: self.detail.clone(),
-            input,
-            answers,
-            alone,
-            firsts: Vec::new(),
-        });
+        self.made.push(Case { kind: self.kind, detail: self.detail.clone(), input, answers, alone, offer: None });
     }
 }
 

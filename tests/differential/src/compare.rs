@@ -25,27 +25,43 @@ impl Difference {
 
 #[derive(Default)]
 pub struct Comparison {
-    /// Every answer on which both programs agree, with the number of its case.
-    pub agreed: Vec<(usize, String)>,
     pub differences: Vec<Difference>,
     /// Programs that ended badly, or gave more or fewer answers than they owe.
     pub failures: Vec<String>,
 }
 
+/// Gets every case with those of its answers on which both programs agree; all answers of a group would be too much to
+/// keep.
+pub type Agreed<'a> = dyn FnMut(&Case, &[String]) + 'a;
+
+/// A run of the programs ends with the case that brings its input to so many bytes, unless lines hang on each other.
+const INPUT_OF_A_RUN: usize = 1 << 22;
+
 /// Runs all cases and compares every answer.
-pub fn compare(programs: &Programs, cases: &[Case]) -> Comparison {
+pub fn compare(programs: &Programs, cases: &[Case], in_order: bool, agreed: &mut Agreed) -> Comparison {
     let mut comparison = Comparison::default();
     let (alone, together): (Vec<_>, Vec<_>) = cases.iter().enumerate().partition(|(_, case)| case.alone);
-    if !together.is_empty() {
-        compare_run(programs, &together, &mut comparison);
-    }
-    for case in alone {
-        compare_run(programs, &[case], &mut comparison);
+    let most_input = if in_order { usize::MAX } else { INPUT_OF_A_RUN };
+    for run in runs(&together, most_input).into_iter().chain(alone.chunks(1)) {
+        compare_run(programs, run, &mut comparison, agreed);
     }
     comparison
 }
 
-fn compare_run(programs: &Programs, cases: &[(usize, &Case)], comparison: &mut Comparison) {
+fn runs<'a, 'b>(cases: &'b [(usize, &'a Case)], most_input: usize) -> Vec<&'b [(usize, &'a Case)]> {
+    let mut runs = Vec::new();
+    let (mut start, mut input) = (0, 0);
+    for (at, (_, case)) in cases.iter().enumerate() {
+        input += case.input.len();
+        if input >= most_input || at + 1 == cases.len() {
+            runs.push(&cases[start..=at]);
+            (start, input) = (at + 1, 0);
+        }
+    }
+    runs
+}
+
+fn compare_run(programs: &Programs, cases: &[(usize, &Case)], comparison: &mut Comparison, agreed: &mut Agreed) {
     let pieces: Vec<_> = cases.iter().map(|(_, case)| case.input.as_slice()).collect();
     let [bench, second] = programs.run(pieces.concat());
     let owed = cases.iter().map(|(_, case)| case.answers.len()).sum();
@@ -55,7 +71,7 @@ fn compare_run(programs: &Programs, cases: &[(usize, &Case)], comparison: &mut C
             comparison.failures.push(format!("{name}, in the run that begins with case {first}: {failure}"));
         }
     }
-    compare_answers(cases, &bench.output, &second.output, comparison);
+    compare_answers(cases, &bench.output, &second.output, comparison, agreed);
 }
 
 fn failure(run: &Run, owed: usize) -> Option<String> {
@@ -64,19 +80,27 @@ fn failure(run: &Run, owed: usize) -> Option<String> {
     run.failure.clone().or_else(miscounted)
 }
 
-fn compare_answers(cases: &[(usize, &Case)], bench: &[u8], second: &[u8], comparison: &mut Comparison) {
+fn compare_answers(
+    cases: &[(usize, &Case)],
+    bench: &[u8],
+    second: &[u8],
+    comparison: &mut Comparison,
+    agreed: &mut Agreed,
+) {
     let mut bench = answers(bench);
     let mut second = answers(second);
     for &(number, case) in cases {
+        let mut agreed_here = Vec::with_capacity(case.answers.len());
         for (answer, known) in (1..).zip(&case.answers) {
             let difference =
                 Difference { case: number, answer, bench: bench.next(), second: second.next(), known: known.clone() };
             if difference.programs_disagree() || difference.programs_agree_on_a_wrong_answer() {
                 comparison.differences.push(difference);
             } else {
-                comparison.agreed.extend(difference.bench.map(|answer| (number, answer)));
+                agreed_here.extend(difference.bench);
             }
         }
+        agreed(case, &agreed_here);
     }
 }
 
@@ -92,25 +116,43 @@ fn answers(output: &[u8]) -> impl Iterator<Item = String> + '_ {
 mod tests {
     use super::*;
 
-    fn compared(known: &[Option<&str>], bench: &[u8], second: &[u8]) -> Comparison {
-        let case = Case {
+    fn case(input: &[u8], known: &[Option<&str>]) -> Case {
+        Case {
             kind: "made up",
             detail: String::new(),
-            input: Vec::new(),
+            input: input.to_vec(),
             answers: known.iter().map(|answer| answer.map(str::to_string)).collect(),
             alone: false,
-            firsts: Vec::new(),
-        };
+            offer: None,
+        }
+    }
+
+    fn compared(known: &[Option<&str>], bench: &[u8], second: &[u8]) -> Comparison {
         let mut comparison = Comparison::default();
-        compare_answers(&[(0, &case)], bench, second, &mut comparison);
+        compare_answers(&[(0, &case(b"", known))], bench, second, &mut comparison, &mut |_, _| ());
         comparison
     }
 
     #[test]
     fn equal_answers_agree() {
-        let comparison = compared(&[Some("name"), None], b"name\nnone\n", b"name\nnone\n");
-        assert_eq!(comparison.agreed, [(0, "name".to_string()), (0, "none".to_string())]);
+        let mut comparison = Comparison::default();
+        let mut agreed = Vec::new();
+        let output = b"name\nnone\n";
+        let case = case(b"", &[Some("name"), None]);
+        compare_answers(&[(0, &case)], output, output, &mut comparison, &mut |_, answers| agreed = answers.to_vec());
+        assert_eq!(agreed, ["name", "none"]);
         assert!(comparison.differences.is_empty());
+    }
+
+    #[test]
+    fn every_case_is_in_one_run() {
+        let cases = [b"123".as_slice(), b"4", b"56", b"7"].map(|input| case(input, &[]));
+        let cases: Vec<_> = cases.iter().enumerate().collect();
+        let sizes = |most| runs(&cases, most).iter().map(|run| run.len()).collect::<Vec<_>>();
+        assert_eq!(sizes(usize::MAX), [4]);
+        assert_eq!(sizes(3), [1, 2, 1]);
+        assert_eq!(sizes(1), [1, 1, 1, 1]);
+        assert!(runs(&[], 3).is_empty());
     }
 
     #[test]

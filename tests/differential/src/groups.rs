@@ -25,8 +25,8 @@ use crate::random::Random;
 
 pub type Maker = fn(&mut Random, &mut Cases);
 
-/// What must occur beside kinds of answers: its name, how often at least, and how it is known by a case and an answer.
-pub type Occasion = (&'static str, usize, fn(&Case, &str) -> bool);
+/// What must occur beside kinds of answers: its name, how often at least, and how it is known by a case and its answers.
+pub type Occasion = (&'static str, usize, fn(&Case, &[String]) -> bool);
 
 pub struct Group {
     pub name: &'static str,

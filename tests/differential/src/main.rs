@@ -19,6 +19,7 @@ use cases::Case;
 use compare::{compare, Comparison, Difference};
 use groups::Group;
 use programs::Programs;
+use std::collections::BTreeMap;
 use std::time::Instant;
 
 const DEFAULT_SEED: u64 = 36_968;
@@ -106,57 +107,78 @@ fn main() {
 fn run_group(request: &Request, group: &Group, tally: &mut Tally) {
     let started = Instant::now();
     let cases = group.cases(request.seed);
-    let comparison = compare(&request.programs, &cases);
-    let answers = count_answers(group, &comparison.agreed);
-    let occasions = count_occasions(group, &cases, &comparison.agreed);
+    let mut counts = Counts::new(group);
+    let comparison =
+        compare(&request.programs, &cases, group.in_order, &mut |case, answers| counts.add(group, case, answers));
 
-    let counts: Vec<_> = answers.iter().chain(&occasions).map(|(answer, count)| format!("{count} {answer}")).collect();
     println!(
         "{}: {} cases of {} kinds in {:.1} s; {}",
         group.name,
         cases.len(),
         group.kinds.len(),
         started.elapsed().as_secs_f64(),
-        counts.join(", ")
+        counts.show(group)
     );
 
     count_comparison(request, group, &cases, &comparison, tally);
-    count_occurrences(group, &cases, &comparison, &answers, tally);
-    if !group.occasions.is_empty() {
-        let asked = occasions.iter().zip(group.occasions).map(|(&(occasion, count), asked)| (occasion, count, asked.1));
-        let rare: Vec<_> = asked.filter(|(_, count, at_least)| count < at_least).collect();
-        let test = format!("{}: everything else that is asked for occurred often enough", group.name);
-        tally.count(&test, &rare, |(occasion, count, at_least)| {
-            format!("\"{occasion}\" occurred {count} times, not {at_least}")
-        });
+    count_occurrences(group, &cases, &counts, tally);
+}
+
+/// How often each kind of answer and each occasion of a group occurred.
+struct Counts {
+    kinds: BTreeMap<String, usize>,
+    occasions: Vec<usize>,
+}
+
+impl Counts {
+    fn new(group: &Group) -> Counts {
+        Counts { kinds: BTreeMap::new(), occasions: vec![0; group.occasions.len()] }
+    }
+
+    fn add(&mut self, group: &Group, case: &Case, answers: &[String]) {
+        for answer in answers {
+            *self.kinds.entry(kind_of(answer)).or_default() += 1;
+        }
+        for (count, (_, _, occurs)) in self.occasions.iter_mut().zip(group.occasions) {
+            *count += usize::from(occurs(case, answers));
+        }
+    }
+
+    fn of(&self, kind: &str) -> usize {
+        self.kinds.get(kind).copied().unwrap_or(0)
+    }
+
+    fn show(&self, group: &Group) -> String {
+        let answers = group.answers.iter().map(|kind| format!("{} {kind}", self.of(kind)));
+        let occasions = self.occasions.iter().zip(group.occasions).map(|(count, (name, ..))| format!("{count} {name}"));
+        answers.chain(occasions).collect::<Vec<_>>().join(", ")
     }
 }
 
-fn count_occurrences(
-    group: &Group,
-    cases: &[Case],
-    comparison: &Comparison,
-    answers: &[(&str, usize)],
-    tally: &mut Tally,
-) {
+fn count_occurrences(group: &Group, cases: &[Case], counts: &Counts, tally: &mut Tally) {
     let name = group.name;
-    let rare: Vec<_> = answers.iter().filter(|(_, count)| *count < group.at_least).collect();
-    tally.count(&format!("{name}: every kind of answer occurred often enough"), &rare, |(answer, count)| {
-        format!("`{answer}` occurred {count} times, not {}", group.at_least)
+    let rare: Vec<_> = group.answers.iter().filter(|kind| counts.of(kind) < group.at_least).collect();
+    tally.count(&format!("{name}: every kind of answer occurred often enough"), &rare, |kind| {
+        format!("`{kind}` occurred {} times, not {}", counts.of(kind), group.at_least)
     });
 
-    let kinds = group.answers.iter().chain(group.also);
-    let foreign = |answer: &&String| !kinds.clone().any(|kind| is_of_kind(answer, kind));
-    let foreign: Vec<_> = comparison.agreed.iter().map(|(_, answer)| answer).filter(foreign).collect();
-    tally.count(&format!("{name}: no other kind of answer occurred"), &foreign, |answer| {
-        format!("`{}`", shortened(answer))
-    });
+    let is_listed = |kind: &str| group.answers.contains(&kind) || group.also.contains(&kind);
+    let foreign: Vec<_> = counts.kinds.keys().filter(|kind| !is_listed(kind)).collect();
+    tally.count(&format!("{name}: no other kind of answer occurred"), &foreign, |kind| format!("`{kind}`"));
 
     let unmade = |kind: &&str| !cases.iter().any(|case| case.kind == *kind);
     let unmade: Vec<_> = group.kinds.iter().map(|(kind, _)| *kind).filter(unmade).collect();
     tally.count(&format!("{name}: every kind of case was made"), &unmade, |kind| {
         format!("no case of the kind \"{kind}\"")
     });
+
+    if !group.occasions.is_empty() {
+        let rare = group.occasions.iter().zip(&counts.occasions).filter(|((_, at_least, _), count)| *count < at_least);
+        let test = format!("{name}: everything else that is asked for occurred often enough");
+        tally.count(&test, &rare.collect::<Vec<_>>(), |((occasion, at_least, _), count)| {
+            format!("\"{occasion}\" occurred {count} times, not {at_least}")
+        });
+    }
 }
 
 /// Runs one case and shows it whole: by itself, or behind all that come before it where its answer hangs on them.
@@ -172,10 +194,8 @@ fn run_case(request: &Request, group: &Group, number: usize, tally: &mut Tally) 
         cases.drain(..number);
     }
     cases.iter().for_each(|case| println!("{}", case.input.escape_ascii()));
-    let comparison = compare(&request.programs, &cases);
-    let own_answers = cases[cases.len() - 1].answers.len();
-    let agreed =
-        comparison.agreed.iter().rev().take(own_answers).rev().map(|(_, answer)| answer.clone()).collect::<Vec<_>>();
+    let mut agreed = Vec::new();
+    let comparison = compare(&request.programs, &cases, group.in_order, &mut |_, answers| agreed = answers.to_vec());
     println!("agreed: {}", agreed.join(", "));
     count_comparison(request, group, &cases, &comparison, tally);
 }
@@ -225,37 +245,29 @@ fn shortened(line: &str) -> String {
     format!("{front} ... {} characters left out ... {back}", line.len() - 2 * ENDS_SHOWN)
 }
 
-/// How often each kind of answer of the group occurred, in the group's order.
-fn count_answers(group: &Group, agreed: &[(usize, String)]) -> Vec<(&'static str, usize)> {
-    let count = |kind: &str| agreed.iter().filter(|(_, answer)| is_of_kind(answer, kind)).count();
-    group.answers.iter().map(|&kind| (kind, count(kind))).collect()
-}
-
-fn count_occasions(group: &Group, cases: &[Case], agreed: &[(usize, String)]) -> Vec<(&'static str, usize)> {
-    let count = |occurs: fn(&Case, &str) -> bool| {
-        let occurred = |(case, answer): &&(usize, String)| occurs(&cases[*case], answer);
-        agreed.iter().filter(occurred).count()
-    };
-    group.occasions.iter().map(|&(occasion, _, occurs)| (occasion, count(occurs))).collect()
-}
-
-/// A kind of answer is the answer itself, or what stands before its numbers.
-fn is_of_kind(answer: &str, kind: &str) -> bool {
-    let is_of_numbers = |letter: char| letter.is_ascii_digit() || " @+".contains(letter);
-    let numbers = |rest: &str| rest.starts_with(' ') && rest.chars().all(is_of_numbers);
-    answer.strip_prefix(kind).is_some_and(|rest| rest.is_empty() || numbers(rest))
+/// What an answer says without its numbers, bytes and places; a refusal keeps its number.
+fn kind_of(answer: &str) -> String {
+    if answer.starts_with("refused ") {
+        return answer.to_string();
+    }
+    let is_value = |word: &str| word.bytes().all(|byte| byte.is_ascii_hexdigit() || b"@+-".contains(&byte));
+    let mut words = answer.split(' ');
+    let verb = words.next().unwrap_or("");
+    words.filter(|word| !is_value(word)).fold(verb.to_string(), |kind, word| kind + " " + word)
 }
 
 #[cfg(test)]
 mod tests {
-    use super::is_of_kind;
+    use super::kind_of;
 
     #[test]
-    fn a_refusal_keeps_its_number_and_other_answers_lose_theirs() {
-        assert!(is_of_kind("key-exchange 4 1", "key-exchange"));
-        assert!(is_of_kind("read 2 1 1@28+52", "read"));
-        assert!(is_of_kind("refused 16", "refused 16"));
-        assert!(!is_of_kind("refused 16", "refused 1"));
-        assert!(!is_of_kind("name (without a line end)", "name"));
+    fn a_refusal_keeps_its_number_and_other_answers_lose_their_values() {
+        assert_eq!(kind_of("key-exchange 4 1"), "key-exchange");
+        assert_eq!(kind_of("read 2 1 1@28+52"), "read");
+        assert_eq!(kind_of("reply 0000abcd"), "reply");
+        assert_eq!(kind_of("kept - ff"), "kept");
+        assert_eq!(kind_of("refused 16"), "refused 16");
+        assert_eq!(kind_of("bad line"), "bad line");
+        assert_ne!(kind_of("name (without a line end)"), "name");
     }
 }

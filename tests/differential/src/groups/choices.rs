@@ -2,7 +2,7 @@
 //! checks, and pairs of any book and any message.
 
 use super::Group;
-use crate::cases::{refused, Cases};
+use crate::cases::{refused, Case, Cases};
 use crate::checks::CHECKS;
 use crate::damage::{limits, with_field};
 use crate::message::{
@@ -25,20 +25,20 @@ pub const GROUP: Group = Group {
     also: &[],
     in_order: false,
     occasions: &[
-        ("chosen with a set other than the first", 500, |case, answer| {
-            chosen_numbers(answer).is_some_and(|chosen| case.firsts.first().is_some_and(|first| chosen[0] != first.0))
+        ("chosen with a set other than the first", 500, |case, answers| {
+            chosen_numbers(answers).is_some_and(|chosen| firsts(case).first().is_some_and(|first| chosen[0] != first.0))
         }),
-        ("chosen with a line other than the first", 500, |_, answer| {
-            chosen_numbers(answer).is_some_and(|chosen| chosen[1] != 1)
+        ("chosen with a line other than the first", 500, |_, answers| {
+            chosen_numbers(answers).is_some_and(|chosen| chosen[1] != 1)
         }),
-        ("chosen with a transform other than the first", 500, |case, answer| {
-            chosen_numbers(answer).is_some_and(|chosen| {
-                let firsts = case.firsts.iter().filter(|first| first.0 == chosen[0]);
+        ("chosen with a transform other than the first", 500, |case, answers| {
+            chosen_numbers(answers).is_some_and(|chosen| {
+                let firsts = firsts(case).into_iter().filter(|first| first.0 == chosen[0]);
                 firsts.zip(&chosen[2..]).any(|(first, transform)| first.1 != *transform)
             })
         }),
-        ("readable offer near the line", 50_000, |case, answer| {
-            !case.firsts.is_empty() && (answer == "refused 14" || chosen_numbers(answer).is_some())
+        ("readable offer near the line", 50_000, |case, answers| {
+            case.offer.is_some() && (answers == ["refused 14"] || chosen_numbers(answers).is_some())
         }),
     ],
     kinds: &[
@@ -96,8 +96,14 @@ const ANSWERS: &[&str] = &[
 ];
 
 /// Set, line and transforms of the answer `chosen`.
-fn chosen_numbers(answer: &str) -> Option<Vec<u8>> {
-    answer.strip_prefix("chosen ")?.split(' ').map(|word| word.parse().ok()).collect()
+fn chosen_numbers(answers: &[String]) -> Option<Vec<u8>> {
+    answers.first()?.strip_prefix("chosen ")?.split(' ').map(|word| word.parse().ok()).collect()
+}
+
+/// For each proposal that is offered its number and that of its first transform.
+fn firsts(case: &Case) -> Vec<(u8, u8)> {
+    let proposals = case.offer.iter().flat_map(|offer| &offer.proposals);
+    proposals.map(|proposal| (proposal.number, proposal.transforms[0].number)).collect()
 }
 
 /// What a line can be about.
