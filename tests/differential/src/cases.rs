@@ -93,7 +93,11 @@ impl Cases {
     }
 
     fn line(&mut self, verb: &str, bytes: &[u8], answer: Option<String>) {
-        let line = format!("{verb} {}\n", word(bytes));
+        self.one_line(format!("{verb} {}\n", word(bytes)), answer);
+    }
+
+    /// A whole line, with its answer where it is known.
+    pub fn one_line(&mut self, line: String, answer: Option<String>) {
         self.add(line.into_bytes(), vec![answer], false);
     }
 

@@ -15,6 +15,7 @@ mod messages;
 mod offer_checks;
 mod offer_damage;
 mod port;
+mod replies;
 mod sequence_lines;
 mod sequence_packets;
 mod sequence_table;
@@ -60,6 +61,7 @@ pub const ALL: &[Group] = &[
     sequence_lines::GROUP,
     books::GROUP,
     choices::GROUP,
+    replies::GROUP,
 ];
 
 /// Every line `read` is answered by one of these.
@@ -84,6 +86,9 @@ const READ_ANSWERS: &[&str] = &[
     "refused 29",
     "refused 30",
 ];
+
+/// Every number that a reading can be refused with.
+const READ_REFUSALS: &[&str] = READ_ANSWERS.split_at(1).1;
 
 /// Every line `der` is answered by one of these.
 const DER_ANSWERS: &[&str] = &["name", "element", "none"];

@@ -159,6 +159,13 @@ impl Payload {
         }
     }
 
+    /// It by itself, with no payload behind it.
+    pub fn encode_last(&self) -> Vec<u8> {
+        let mut layout = Layout::default();
+        self.write(&mut layout, 0);
+        layout.bytes
+    }
+
     fn write(&self, layout: &mut Layout, next: u8) {
         layout.number("payload's next", 1, next.into());
         layout.number("payload's reserved byte", 1, self.reserved.into());

@@ -65,9 +65,12 @@ pub const GROUP: Group = Group {
         ("any message and any book", any_message),
         ("field of a suiting offer at its limits", fields_at_their_limits),
         ("byte of a suiting offer changed", bytes_changed),
-        ("words of the line", words),
+        (WORDS, words),
     ],
 };
+
+/// The kind of which not every case is a pair.
+pub const WORDS: &str = "words of the line";
 
 /// Every refusal of a reading, that of a choice and that of a book.
 const ANSWERS: &[&str] = &[
