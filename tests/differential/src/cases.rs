@@ -8,14 +8,24 @@ pub struct Case {
     pub kind: &'static str,
     /// What is particular about it among those of its kind.
     pub detail: String,
-    /// Whole lines; only in a case that runs alone may the last one lack its line end.
+    /// Whole lines; only in a case that runs alone may the last one lack its line end. Or a book and a message.
     pub input: Vec<u8>,
     /// One for each answer owed: the right one, or `None` where only agreement is asked.
     pub answers: Vec<Option<String>>,
-    /// Whether it gets programs of its own, because the end of input matters.
-    pub alone: bool,
+    pub programs: ProgramsOf,
     /// What is offered, where the message can be read and answers are counted by it.
     pub offer: Option<Offer>,
+}
+
+/// Which programs a case is for.
+#[derive(Clone, Copy, PartialEq)]
+pub enum ProgramsOf {
+    /// Those that answer lines, one run for all such cases.
+    Lines,
+    /// The same, but a run of their own, because the end of input matters.
+    LinesAlone,
+    /// The verdict programs, whose whole output is one answer. The input comes in pieces of so many bytes.
+    Verdicts { piece: usize },
 }
 
 impl Case {
@@ -98,23 +108,35 @@ impl Cases {
 
     /// A whole line, with its answer where it is known.
     pub fn one_line(&mut self, line: String, answer: Option<String>) {
-        self.add(line.into_bytes(), vec![answer], false);
+        self.add(line.into_bytes(), vec![answer], ProgramsOf::Lines);
     }
 
     /// Whole lines and the answers to them.
     pub fn lines(&mut self, input: Vec<u8>, answers: &[String]) {
-        self.add(input, answers.iter().cloned().map(Some).collect(), false);
+        self.add(input, answers.iter().cloned().map(Some).collect(), ProgramsOf::Lines);
     }
 
     /// All that a pair of programs gets to read, and the answers to it.
     pub fn alone(&mut self, input: Vec<u8>, answers: &[String]) {
-        self.add(input, answers.iter().cloned().map(Some).collect(), true);
+        self.add(input, answers.iter().cloned().map(Some).collect(), ProgramsOf::LinesAlone);
     }
 
-    fn add(&mut self, input: Vec<u8>, answers: Vec<Option<String>>, alone: bool) {
-        self.made.push(Case { kind: self.kind, detail: self.detail.clone(), input, answers, alone, offer: None });
+    /// All that a pair of verdict programs gets to read, and the lines that they print where those are known.
+    pub fn verdict(&mut self, input: Vec<u8>, lines: Option<Vec<String>>) {
+        self.verdict_in_pieces(input, usize::MAX, lines);
+    }
+
+    pub fn verdict_in_pieces(&mut self, input: Vec<u8>, piece: usize, lines: Option<Vec<String>>) {
+        self.add(input, vec![lines.map(|lines| lines.join(LINE_END_SHOWN))], ProgramsOf::Verdicts { piece });
+    }
+
+    fn add(&mut self, input: Vec<u8>, answers: Vec<Option<String>>, programs: ProgramsOf) {
+        self.made.push(Case { kind: self.kind, detail: self.detail.clone(), input, answers, programs, offer: None });
     }
 }
+
+/// Stands for the line ends within an answer of several lines.
+pub const LINE_END_SHOWN: &str = " / ";
 
 pub fn refused(number: u16) -> String {
     format!("refused {number}")
@@ -132,6 +154,15 @@ pub fn word(bytes: &[u8]) -> String {
         hex.push(DIGITS[usize::from(byte & 15)].into());
     }
     hex
+}
+
+/// The bytes of a word that holds some.
+pub fn bytes(word: &str) -> Vec<u8> {
+    if word == "-" {
+        return Vec::new();
+    }
+    let byte = |at| u8::from_str_radix(&word[at..at + 2], 16).expect("bytes in hex");
+    (0..word.len()).step_by(2).map(byte).collect()
 }
 
 /// Every string of exactly `length` bytes over the alphabet.

@@ -1,6 +1,6 @@
 //! Lays the answers of both programs beside each other and beside those known by construction.
 
-use crate::cases::Case;
+use crate::cases::{Case, ProgramsOf, LINE_END_SHOWN};
 use crate::programs::{Programs, Run};
 
 /// An answer that is missing is `None`, on either side.
@@ -40,10 +40,14 @@ const INPUT_OF_A_RUN: usize = 1 << 22;
 /// Runs all cases and compares every answer.
 pub fn compare(programs: &Programs, cases: &[Case], in_order: bool, agreed: &mut Agreed) -> Comparison {
     let mut comparison = Comparison::default();
-    let (alone, together): (Vec<_>, Vec<_>) = cases.iter().enumerate().partition(|(_, case)| case.alone);
+    let is_together = |(_, case): &(usize, &Case)| case.programs == ProgramsOf::Lines;
+    let (together, alone): (Vec<_>, Vec<_>) = cases.iter().enumerate().partition(is_together);
     let most_input = if in_order { usize::MAX } else { INPUT_OF_A_RUN };
     for run in runs(&together, most_input).into_iter().chain(alone.chunks(1)) {
-        compare_run(programs, run, &mut comparison, agreed);
+        match run[0].1.programs {
+            ProgramsOf::Verdicts { piece } => compare_verdicts(programs, run[0], piece, &mut comparison, agreed),
+            _ => compare_run(programs, run, &mut comparison, agreed),
+        }
     }
     comparison
 }
@@ -72,6 +76,25 @@ fn compare_run(programs: &Programs, cases: &[(usize, &Case)], comparison: &mut C
         }
     }
     compare_answers(cases, &bench.output, &second.output, comparison, agreed);
+}
+
+/// The whole output is one answer.
+fn compare_verdicts(
+    programs: &Programs,
+    case: (usize, &Case),
+    piece: usize,
+    comparison: &mut Comparison,
+    agreed: &mut Agreed,
+) {
+    let pieces = case.1.input.chunks(piece).map(<[u8]>::to_vec).collect();
+    let [verdict, second] = programs.run_verdicts(pieces);
+    for (name, run) in [("verdict", &verdict), ("second verdict", &second)] {
+        let failure = run.failure.as_ref().map(|failure| format!("{name}, in case {}: {failure}", case.0));
+        comparison.failures.extend(failure);
+    }
+    let whole = |output: &[u8]| answers(output).collect::<Vec<_>>().join(LINE_END_SHOWN) + "\n";
+    let [verdict, second] = [verdict, second].map(|run| whole(&run.output).into_bytes());
+    compare_answers(&[case], &verdict, &second, comparison, agreed);
 }
 
 fn failure(run: &Run, owed: usize) -> Option<String> {
@@ -122,7 +145,7 @@ mod tests {
             detail: String::new(),
             input: input.to_vec(),
             answers: known.iter().map(|answer| answer.map(str::to_string)).collect(),
-            alone: false,
+            programs: ProgramsOf::Lines,
             offer: None,
         }
     }

@@ -20,6 +20,7 @@ mod sequence_lines;
 mod sequence_packets;
 mod sequence_table;
 mod sequence_window;
+mod verdicts;
 
 use crate::cases::{Case, Cases};
 use crate::random::Random;
@@ -62,6 +63,7 @@ pub const ALL: &[Group] = &[
     books::GROUP,
     choices::GROUP,
     replies::GROUP,
+    verdicts::GROUP,
 ];
 
 /// Every line `read` is answered by one of these.

@@ -1,4 +1,5 @@
-//! Feeds the same lines to `bench` and to the second program and compares every answer; see ../README.md.
+//! Feeds the same lines to `bench` and to the second program, and the same books and messages to `verdict` and to the
+//! second program's own, and compares every answer; see ../README.md.
 
 mod cases;
 mod checks;
@@ -15,7 +16,7 @@ mod random;
 mod sequence;
 mod tree;
 
-use cases::Case;
+use cases::{Case, LINE_END_SHOWN};
 use compare::{compare, Comparison, Difference};
 use groups::Group;
 use programs::Programs;
@@ -39,8 +40,10 @@ struct Request {
 fn request(mut arguments: impl Iterator<Item = String>) -> Option<Request> {
     let bench = arguments.next()?.into();
     let second = arguments.next()?.into();
+    let verdict = arguments.next()?.into();
     let groups = groups::ALL.iter().collect();
-    let mut request = Request { programs: Programs::new(bench, second), seed: DEFAULT_SEED, groups, case: None };
+    let programs = Programs::new(bench, second, verdict);
+    let mut request = Request { programs, seed: DEFAULT_SEED, groups, case: None };
     while let Some(option) = arguments.next() {
         let value = arguments.next()?;
         match option.as_str() {
@@ -62,7 +65,7 @@ fn request(mut arguments: impl Iterator<Item = String>) -> Option<Request> {
 
 fn usage() -> ! {
     let names: Vec<_> = groups::ALL.iter().map(|group| group.name).collect();
-    eprintln!("usage: differential BENCH SECOND [--seed N] [--only GROUP,.. | --only GROUP:CASE]");
+    eprintln!("usage: differential BENCH SECOND VERDICT [--seed N] [--only GROUP,.. | --only GROUP:CASE]");
     eprintln!("groups: {}", names.join(", "));
     std::process::exit(2)
 }
@@ -226,10 +229,11 @@ fn show(request: &Request, group: &Group, case: &Case, difference: &Difference) 
         format!("  second  {}", shortened(&answer(&difference.second))),
         format!("  known   {known}"),
         format!(
-            "  {}: differential {} {} --seed {} --only {}:{number}",
+            "  {}: differential {} {} {} --seed {} --only {}:{number}",
             if group.in_order { "all lines up to this one" } else { "this case alone and whole" },
             request.programs.bench.display(),
             request.programs.second.display(),
+            request.programs.verdict.display(),
             request.seed,
             group.name
         ),
@@ -245,8 +249,10 @@ fn shortened(line: &str) -> String {
     format!("{front} ... {} characters left out ... {back}", line.len() - 2 * ENDS_SHOWN)
 }
 
-/// What an answer says without its numbers, bytes and places; a refusal keeps its number.
+/// What an answer says without its numbers, bytes and places; a refusal keeps its number. Of several lines the last one
+/// counts.
 fn kind_of(answer: &str) -> String {
+    let answer = answer.rsplit(LINE_END_SHOWN).next().unwrap_or("");
     if answer.starts_with("refused ") {
         return answer.to_string();
     }
@@ -268,6 +274,7 @@ mod tests {
         assert_eq!(kind_of("kept - ff"), "kept");
         assert_eq!(kind_of("refused 16"), "refused 16");
         assert_eq!(kind_of("bad line"), "bad line");
+        assert_eq!(kind_of("exchange 2 payloads 1 / payload 1 at 28 length 52 / refused 14"), "refused 14");
         assert_ne!(kind_of("name (without a line end)"), "name");
     }
 }

@@ -1,7 +1,7 @@
-//! Runs the two programs on the same input.
+//! Runs two programs on the same input: `bench` and the second program, or `verdict` and the second program's own.
 
 use std::io::{Read, Write};
-use std::path::{Path, PathBuf};
+use std::path::PathBuf;
 use std::process::{Command, Stdio};
 use std::sync::{mpsc, Arc};
 use std::thread;
@@ -12,9 +12,13 @@ const PATIENCE: Duration = Duration::from_secs(300);
 /// More than all answers together; a program that never stops writing is cut off here.
 const MOST_OUTPUT: u64 = 1 << 28;
 
+/// Between two pieces of input that come one after the other.
+const PAUSE: Duration = Duration::from_millis(1);
+
 pub struct Programs {
     pub bench: PathBuf,
     pub second: PathBuf,
+    pub verdict: PathBuf,
     started: Instant,
 }
 
@@ -25,17 +29,28 @@ pub struct Run {
 }
 
 impl Programs {
-    pub fn new(bench: PathBuf, second: PathBuf) -> Programs {
-        Programs { bench, second, started: Instant::now() }
+    pub fn new(bench: PathBuf, second: PathBuf, verdict: PathBuf) -> Programs {
+        Programs { bench, second, verdict, started: Instant::now() }
     }
 
     /// Both run at once; `bench` stands first.
     pub fn run(&self, input: Vec<u8>) -> [Run; 2] {
-        let input = Arc::new(input);
+        self.run_both(Command::new(&self.bench), Command::new(&self.second), vec![input])
+    }
+
+    /// Both run at once; `verdict` stands first. The pieces of input come one after the other.
+    pub fn run_verdicts(&self, pieces: Vec<Vec<u8>>) -> [Run; 2] {
+        let mut second = Command::new(&self.second);
+        second.arg("verdict");
+        self.run_both(Command::new(&self.verdict), second, pieces)
+    }
+
+    fn run_both(&self, core: Command, second: Command, pieces: Vec<Vec<u8>>) -> [Run; 2] {
+        let pieces = Arc::new(pieces);
         thread::scope(|scope| {
-            let bench = scope.spawn(|| run(&self.bench, &input, self.time_left()));
-            let second = run(&self.second, &input, self.time_left());
-            [bench.join().expect("a run does not panic"), second]
+            let core = scope.spawn(|| run(core, &pieces, self.time_left()));
+            let second = run(second, &pieces, self.time_left());
+            [core.join().expect("a run does not panic"), second]
         })
     }
 
@@ -44,21 +59,26 @@ impl Programs {
     }
 }
 
-fn run(program: &Path, input: &Arc<Vec<u8>>, time: Duration) -> Run {
+fn run(mut program: Command, pieces: &Arc<Vec<Vec<u8>>>, time: Duration) -> Run {
     let failed = |output, failure| Run { output, failure: Some(failure) };
-    let started = Command::new(program).stdin(Stdio::piped()).stdout(Stdio::piped()).spawn();
+    let started = program.stdin(Stdio::piped()).stdout(Stdio::piped()).spawn();
     let mut child = match started {
         Ok(child) => child,
-        Err(error) => return failed(Vec::new(), format!("cannot run {}: {error}", program.display())),
+        Err(error) => return failed(Vec::new(), format!("cannot run {:?}: {error}", program.get_program())),
     };
     let mut to_child = child.stdin.take().expect("its input is piped");
     let from_child = child.stdout.take().expect("its output is piped");
 
     // Input and output go through threads of their own, so that a full pipe on one side never holds up the other.
-    let lines = Arc::clone(input);
+    let pieces = Arc::clone(pieces);
     thread::spawn(move || {
-        // A program that stops reading is found out by its answers and its exit status.
-        let _ = to_child.write_all(&lines);
+        for (piece, place) in pieces.iter().zip(1..) {
+            // A program that stops reading is found out by its answers and its exit status.
+            let _ = to_child.write_all(piece);
+            if place < pieces.len() {
+                thread::sleep(PAUSE);
+            }
+        }
     });
     let (send, receive) = mpsc::channel();
     thread::spawn(move || {

@@ -2,7 +2,7 @@
 //! checks, and pairs of any book and any message.
 
 use super::Group;
-use crate::cases::{refused, Case, Cases};
+use crate::cases::{bytes, refused, Case, Cases};
 use crate::checks::CHECKS;
 use crate::damage::{limits, with_field};
 use crate::message::{
@@ -97,6 +97,18 @@ const ANSWERS: &[&str] = &[
     "refused 8193",
     "bad line",
 ];
+
+/// Book and message of a case that is a pair.
+pub fn pair(choice: &Case) -> [Vec<u8>; 2] {
+    let [book, message] = pair_in_words(choice);
+    [bytes(book), bytes(message)]
+}
+
+pub fn pair_in_words(choice: &Case) -> [&str; 2] {
+    let line = std::str::from_utf8(&choice.input).expect("a line of the choices is text");
+    let words: Vec<_> = line.trim_end().split(' ').collect();
+    [words[1], words[2]]
+}
 
 /// Set, line and transforms of the answer `chosen`.
 fn chosen_numbers(answers: &[String]) -> Option<Vec<u8>> {

@@ -112,16 +112,9 @@ fn add(cases: &mut Cases, choice: &Case, own: Own) {
 }
 
 fn add_answered(cases: &mut Cases, choice: &Case, own: Own, answer: Option<String>) {
-    let [book, message] = pair(choice);
+    let [book, message] = choices::pair_in_words(choice);
     let line = format!("reply {book} {} {} {} {message}\n", own.ah, own.esp, own.room);
     cases.one_line(line, answer);
-}
-
-/// Book and message, as words.
-fn pair(choice: &Case) -> [&str; 2] {
-    let line = std::str::from_utf8(&choice.input).expect("a line of the choices is text");
-    let words: Vec<_> = line.trim_end().split(' ').collect();
-    [words[1], words[2]]
 }
 
 /// What the reply is in a room that is large enough, where it is known what is chosen.
