@@ -2,6 +2,7 @@
 
 use crate::message::{self, Payload, Reading};
 use crate::policy::{self, Book, Choice};
+use crate::quick_lines::Ends;
 use crate::refusal::Refusal;
 use crate::reply::{self, Spis};
 use crate::sequence::{Key, Loss, Receive, Table};
@@ -16,6 +17,7 @@ const LINE_END: u8 = b'\n';
 pub struct Bench {
     table: Table,
     lent: Receive,
+    ends: Ends,
 }
 
 impl Bench {
@@ -49,7 +51,9 @@ impl Bench {
                 let (integrity, packet) = (lines::yes_or_no(integrity)?, lines::bytes(packet)?);
                 Some(accepted(self.table.packet(destination, protocol, integrity, &packet)))
             }
-            [verb, destination, protocol, spi] => self.entry(verb, key(destination, protocol, spi)?),
+            [verb @ (b"add" | b"remove" | b"send" | b"loss"), destination, protocol, spi] => {
+                self.entry(verb, key(destination, protocol, spi)?)
+            }
             [b"lent", b"new"] => {
                 self.lent = Receive::default();
                 Some("done".to_string())
@@ -59,7 +63,7 @@ impl Bench {
                 let (number, integrity) = (lines::decimal(number)?, lines::yes_or_no(integrity)?);
                 Some(accepted(self.lent.step(number, integrity)))
             }
-            _ => None,
+            _ => self.ends.understand(words),
         }
     }
 

@@ -1,5 +1,6 @@
-//! A line's words: bytes written in hex, decimal numbers, yes or no.
+//! A line's words: bytes written in hex, decimal numbers, roles, yes or no.
 
+use crate::quick::Role;
 use std::str::{self, FromStr};
 
 pub const LARGEST_ROOM: usize = 4_096;
@@ -44,6 +45,18 @@ pub fn decimal<Number: FromStr>(word: &[u8]) -> Option<Number> {
 /// The size of a lent buffer.
 pub fn room(word: &[u8]) -> Option<usize> {
     decimal(word).filter(|&size| size <= LARGEST_ROOM)
+}
+
+pub fn cookie(word: &[u8]) -> Option<[u8; 8]> {
+    bytes(word)?.try_into().ok()
+}
+
+pub fn role(word: &[u8]) -> Option<Role> {
+    match word {
+        b"i" => Some(Role::Initiator),
+        b"r" => Some(Role::Responder),
+        _ => None,
+    }
 }
 
 pub fn yes_or_no(word: &[u8]) -> Option<bool> {

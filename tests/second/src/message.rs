@@ -6,23 +6,27 @@
 use crate::refusal::{self, refuse_if, Refusal};
 use crate::wire::{u16_at, u32_at};
 use crate::{identity, offer};
+use std::ops::RangeInclusive;
 
 pub const MAIN_MODE: u8 = 2;
 pub const INFORMATIONAL: u8 = 5;
 pub const QUICK_MODE: u8 = 32;
 
-const HEADER_SIZE: usize = 28;
+pub const HEADER_SIZE: usize = 28;
 const LONGEST_MESSAGE: usize = 8_192;
 const MOST_PAYLOADS: usize = 32;
-const PAYLOAD_HEADER_SIZE: usize = 4;
+pub const PAYLOAD_HEADER_SIZE: usize = 4;
 /// What a message with flag 1 is padded to.
-const BLOCK_SIZE: usize = 16;
+pub const BLOCK_SIZE: usize = 16;
 
-const SA: u8 = 1;
-const IDENTIFICATION: u8 = 5;
+pub const SA: u8 = 1;
+pub const IDENTIFICATION: u8 = 5;
 const CERTIFICATE: u8 = 6;
-const HASH: u8 = 8;
-const NONCE: u8 = 10;
+pub const HASH: u8 = 8;
+pub const NONCE: u8 = 10;
+
+pub const HASH_SIZE: usize = 32;
+pub const NONCE_SIZES: RangeInclusive<usize> = 8..=256;
 
 /// "The reading gives exchange, count, and type, start and length of each payload."
 pub struct Reading {
@@ -39,8 +43,14 @@ pub struct Payload {
 impl Reading {
     /// The body of the SA payload, if the message that was read has one.
     pub fn sa_body<'a>(&self, message: &'a [u8]) -> Option<&'a [u8]> {
-        let sa = self.payloads.iter().find(|payload| payload.kind == SA)?;
-        Some(&message[sa.start + PAYLOAD_HEADER_SIZE..sa.start + sa.length])
+        self.payloads.iter().find(|payload| payload.kind == SA).map(|sa| sa.body(message))
+    }
+}
+
+impl Payload {
+    /// Its body in the message that was read.
+    pub fn body<'a>(&self, message: &'a [u8]) -> &'a [u8] {
+        &message[self.start + PAYLOAD_HEADER_SIZE..self.start + self.length]
     }
 }
 
@@ -111,8 +121,8 @@ fn check_body(exchange: u8, kind: u8, body: &[u8]) -> Result<(), Refusal> {
     match kind {
         SA => offer::check(exchange, body),
         IDENTIFICATION => identity::check(exchange, body),
-        HASH => refuse_if(body.len() != 32, refusal::MALFORMED),
-        NONCE => refuse_if(!(8..=256).contains(&body.len()), refusal::MALFORMED),
+        HASH => refuse_if(body.len() != HASH_SIZE, refusal::MALFORMED),
+        NONCE => refuse_if(!NONCE_SIZES.contains(&body.len()), refusal::MALFORMED),
         CERTIFICATE => {
             refuse_if(body.is_empty(), refusal::MALFORMED)?;
             refuse_if(!matches!(body[0], 4 | 5), refusal::CERTIFICATE_ENCODING)

@@ -28,7 +28,7 @@ pub const PROPOSAL_NEXT: u8 = 2;
 const TRANSFORM_NEXT: u8 = 3;
 
 /// A high bit says how an attribute is sent; its type is what is below.
-const SENT_FIXED: u16 = 0x8000;
+pub const SENT_FIXED: u16 = 0x8000;
 
 /// What the two exchanges ask of an offer.
 struct Rules {
@@ -146,6 +146,7 @@ fn check_attributes(rules: &Rules, attributes: &[u8]) -> Result<(), Refusal> {
 pub struct Proposal<'a> {
     pub number: u8,
     pub protocol: u8,
+    pub spi: &'a [u8],
     transforms: &'a [u8],
 }
 
@@ -163,10 +164,9 @@ pub struct Attribute<'a> {
 }
 
 pub fn proposals(body: &[u8]) -> impl Iterator<Item = Proposal<'_>> {
-    items(&body[OWN_FIELDS_SIZE..], length_at_2).map(|proposal| Proposal {
-        number: proposal[4],
-        protocol: proposal[5],
-        transforms: &proposal[PROPOSAL_HEADER_SIZE + usize::from(proposal[6])..],
+    items(&body[OWN_FIELDS_SIZE..], length_at_2).map(|proposal| {
+        let (spi, transforms) = proposal[PROPOSAL_HEADER_SIZE..].split_at(proposal[6].into());
+        Proposal { number: proposal[4], protocol: proposal[5], spi, transforms }
     })
 }
 

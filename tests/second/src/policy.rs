@@ -33,9 +33,10 @@ pub struct Choice<'a> {
     pub taken: Vec<Taken<'a>>,
 }
 
-/// A proposal of the chosen set: its protocol and its lowest suiting transform.
+/// A proposal of the chosen set: its protocol, the offered SPI, its lowest suiting transform.
 pub struct Taken<'a> {
     pub protocol: u8,
+    pub spi: &'a [u8],
     pub transform: Transform<'a>,
 }
 
@@ -108,9 +109,9 @@ fn suiting<'a>(set: &[Proposal<'a>], line: &Line) -> Option<Vec<Taken<'a>>> {
         return None;
     }
     let lowest = |proposal: &Proposal<'a>| {
-        let protocol = proposal.protocol;
+        let &Proposal { protocol, spi, .. } = proposal;
         let transform = proposal.transforms().find(|transform| line.suits(protocol, transform))?;
-        Some(Taken { protocol, transform })
+        Some(Taken { protocol, spi, transform })
     };
     set.iter().map(lowest).collect()
 }
