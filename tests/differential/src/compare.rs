@@ -92,13 +92,13 @@ fn compare_verdicts(
         let failure = run.failure.as_ref().map(|failure| format!("{name}, in case {}: {failure}", case.0));
         comparison.failures.extend(failure);
     }
-    let whole = |output: &[u8]| answers(output).collect::<Vec<_>>().join(LINE_END_SHOWN) + "\n";
+    let whole = |output: &[u8]| lines(output).map(shown).collect::<Vec<_>>().join(LINE_END_SHOWN) + "\n";
     let [verdict, second] = [verdict, second].map(|run| whole(&run.output).into_bytes());
     compare_answers(&[case], &verdict, &second, comparison, agreed);
 }
 
 fn failure(run: &Run, owed: usize) -> Option<String> {
-    let given = answers(&run.output).count();
+    let given = lines(&run.output).count();
     let miscounted = || (given != owed).then(|| format!("{given} answers where {owed} are owed"));
     run.failure.clone().or_else(miscounted)
 }
@@ -110,29 +110,49 @@ fn compare_answers(
     comparison: &mut Comparison,
     agreed: &mut Agreed,
 ) {
-    let mut bench = answers(bench);
-    let mut second = answers(second);
+    let (mut bench, mut second) = (lines(bench), lines(second));
     for &(number, case) in cases {
         let mut agreed_here = Vec::with_capacity(case.answers.len());
         for (answer, known) in (1..).zip(&case.answers) {
-            let difference =
-                Difference { case: number, answer, bench: bench.next(), second: second.next(), known: known.clone() };
-            if difference.programs_disagree() || difference.programs_agree_on_a_wrong_answer() {
-                comparison.differences.push(difference);
-            } else {
-                agreed_here.extend(difference.bench);
+            let (bench, second) = (bench.next(), second.next());
+            let shown = bench.map(shown);
+            if bench == second && (known.is_none() || shown == *known) {
+                agreed_here.extend(shown);
+                continue;
             }
+            let second = second.map(self::shown);
+            comparison.differences.push(Difference {
+                case: number,
+                answer,
+                bench: shown,
+                second,
+                known: known.clone(),
+            });
         }
         agreed(case, &agreed_here);
     }
 }
 
-/// The answers in an output. One that lacks its line end is spoiled here, so that it equals no right answer.
-fn answers(output: &[u8]) -> impl Iterator<Item = String> + '_ {
-    output.split_inclusive(|&byte| byte == b'\n').map(|line| match line.strip_suffix(b"\n") {
-        Some(answer) => answer.escape_ascii().to_string(),
-        None => format!("{} (without a line end)", line.escape_ascii()),
-    })
+/// The answers in an output, with their line ends.
+fn lines(output: &[u8]) -> impl Iterator<Item = &[u8]> {
+    output.split_inclusive(|&byte| byte == b'\n')
+}
+
+/// An answer as it is shown. One that lacks its line end is spoiled here, so that it equals no right answer.
+fn shown(line: &[u8]) -> String {
+    match line.strip_suffix(b"\n") {
+        Some(answer) => printable(answer),
+        None => format!("{} (without a line end)", printable(line)),
+    }
+}
+
+/// Escaped only where that changes something, since answers may be long.
+fn printable(answer: &[u8]) -> String {
+    let is_plain = |byte: u8| (b' '..=b'~').contains(&byte) & (byte != b'"') & (byte != b'\'') & (byte != b'\\');
+    match std::str::from_utf8(answer) {
+        Ok(text) if answer.iter().fold(true, |plain, &byte| plain & is_plain(byte)) => text.to_string(),
+        _ => answer.escape_ascii().to_string(),
+    }
 }
 
 #[cfg(test)]

@@ -21,14 +21,18 @@ pub fn bytes(word: &[u8]) -> Option<Vec<u8>> {
     word.chunks(2).map(|pair| Some(digit(pair[0])? << 4 | digit(pair[1])?)).collect()
 }
 
-/// Bytes as a word of a line.
+/// Bytes as a word of a line. Kept buffers are long, so it is written into one piece of memory.
 pub fn word(bytes: &[u8]) -> String {
-    const DIGITS: &[u8; 16] = b"0123456789abcdef";
+    const DIGITS: [char; 16] = ['0', '1', '2', '3', '4', '5', '6', '7', '8', '9', 'a', 'b', 'c', 'd', 'e', 'f'];
     if bytes.is_empty() {
         return "-".to_string();
     }
-    let digits = |byte: &u8| [DIGITS[usize::from(byte >> 4)], DIGITS[usize::from(byte & 15)]];
-    bytes.iter().flat_map(digits).map(char::from).collect()
+    let mut word = String::with_capacity(2 * bytes.len());
+    for byte in bytes {
+        word.push(DIGITS[usize::from(byte >> 4)]);
+        word.push(DIGITS[usize::from(byte & 15)]);
+    }
+    word
 }
 
 /// Four bytes in hex.
