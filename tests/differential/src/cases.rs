@@ -116,6 +116,11 @@ impl Cases {
         self.add(input, answers.iter().cloned().map(Some).collect(), ProgramsOf::Lines);
     }
 
+    /// Whole lines, each with its answer where it is known.
+    pub fn several_lines(&mut self, input: Vec<u8>, answers: Vec<Option<String>>) {
+        self.add(input, answers, ProgramsOf::Lines);
+    }
+
     /// All that a pair of programs gets to read, and the answers to it.
     pub fn alone(&mut self, input: Vec<u8>, answers: &[String]) {
         self.add(input, answers.iter().cloned().map(Some).collect(), ProgramsOf::LinesAlone);

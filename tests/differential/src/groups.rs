@@ -3,10 +3,13 @@
 
 mod books;
 mod choices;
+mod deliveries;
 mod der_damage;
 mod der_lengths;
 mod der_small;
 mod der_trees;
+mod ends;
+mod exchanges;
 mod identities;
 mod lines;
 mod message_checks;
@@ -64,6 +67,9 @@ pub const ALL: &[Group] = &[
     choices::GROUP,
     replies::GROUP,
     verdicts::GROUP,
+    ends::GROUP,
+    deliveries::GROUP,
+    exchanges::GROUP,
 ];
 
 /// Every line `read` is answered by one of these.

@@ -5,6 +5,7 @@ mod cases;
 mod checks;
 mod compare;
 mod damage;
+mod exchange;
 mod groups;
 mod identity;
 mod layout;
@@ -15,6 +16,7 @@ mod programs;
 mod random;
 mod sequence;
 mod tree;
+mod wild;
 
 use cases::{Case, LINE_END_SHOWN};
 use compare::{compare, Comparison, Difference};
@@ -256,7 +258,9 @@ fn kind_of(answer: &str) -> String {
     if answer.starts_with("refused ") {
         return answer.to_string();
     }
-    let is_value = |word: &str| word.bytes().all(|byte| byte.is_ascii_hexdigit() || b"@+-".contains(&byte));
+    let is_of_value = |byte: u8| matches!(byte, b'0'..=b'9' | b'a'..=b'f' | b'@' | b'+' | b'-');
+    // All bytes are looked at, which is faster for long words than to stop at the first that is none.
+    let is_value = |word: &str| word.bytes().fold(true, |all, byte| all & is_of_value(byte));
     let mut words = answer.split(' ');
     let verb = words.next().unwrap_or("");
     words.filter(|word| !is_value(word)).fold(verb.to_string(), |kind, word| kind + " " + word)

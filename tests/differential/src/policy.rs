@@ -241,6 +241,12 @@ pub fn proposal(random: &mut Random, number: u8, protocol: u8, mut transforms: V
         next += random.between(1, 30) as u8;
     }
     let exchange = if protocol == ISAKMP { MAIN_MODE } else { QUICK_MODE };
+    let spi = lawful_spi(random, exchange);
+    proposal_of(number, protocol, spi, transforms)
+}
+
+/// A proposal that is written as it should be.
+pub fn proposal_of(number: u8, protocol: u8, spi: Vec<u8>, transforms: Vec<Transform>) -> Proposal {
     Proposal {
         next: None,
         reserved: 0,
@@ -249,7 +255,7 @@ pub fn proposal(random: &mut Random, number: u8, protocol: u8, mut transforms: V
         protocol,
         spi_size: None,
         count: None,
-        spi: lawful_spi(random, exchange),
+        spi,
         transforms,
         rest: Vec::new(),
     }

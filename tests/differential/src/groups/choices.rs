@@ -10,7 +10,7 @@ use crate::message::{
     VENDOR,
 };
 use crate::offer::{
-    fixed, life_duration, Offer, Sizes, Transform, Value, AH, ESP, MOST_PROPOSALS, MOST_TRANSFORMS, SMALL,
+    fixed, life_duration, Offer, Proposal, Sizes, Transform, Value, AH, ESP, MOST_PROPOSALS, MOST_TRANSFORMS, SMALL,
 };
 use crate::policy::{
     codings, lasting, offer_of_sets, random_book, random_line, random_seconds, set_of, spoiled, suiting, suiting_id,
@@ -97,6 +97,27 @@ const ANSWERS: &[&str] = &[
     "refused 8193",
     "bad line",
 ];
+
+/// The cases of one kind.
+pub fn of_kind(random: &mut Random, kind: &str) -> Vec<Case> {
+    let (kind, make) = GROUP.kinds.iter().find(|(name, _)| *name == kind).expect("the choices have it");
+    let mut cases = Cases { kind, detail: String::new(), made: Vec::new() };
+    make(random, &mut cases);
+    cases.made
+}
+
+/// The chosen proposals with their chosen transforms alone, where something is known to be chosen of a known offer.
+pub fn taken(choice: &Case) -> Option<Vec<Proposal>> {
+    let numbers = chosen_numbers(choice.answers[0].as_slice())?;
+    let offer = choice.offer.as_ref()?;
+    let set = offer.proposals.iter().filter(|proposal| proposal.number == numbers[0]);
+    let taken = set.zip(&numbers[2..]).map(|(proposal, &transform)| {
+        let mut taken = proposal.clone();
+        taken.transforms.retain(|each| each.number == transform);
+        taken
+    });
+    Some(taken.collect())
+}
 
 /// Book and message of a case that is a pair.
 pub fn pair(choice: &Case) -> [Vec<u8>; 2] {

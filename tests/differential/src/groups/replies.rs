@@ -3,7 +3,7 @@
 use super::{choices, Group};
 use crate::cases::{refused, word, Case, Cases};
 use crate::message::sa;
-use crate::offer::{Offer, Proposal, AH, ESP, ISAKMP};
+use crate::offer::{Offer, AH, ESP, ISAKMP};
 use crate::random::Random;
 
 pub const GROUP: Group = Group {
@@ -87,17 +87,9 @@ fn random_room(random: &mut Random) -> usize {
     }
 }
 
-/// The cases of one kind of the choices.
-fn choices_of(random: &mut Random, kind: &str) -> Vec<Case> {
-    let (kind, make) = choices::GROUP.kinds.iter().find(|(name, _)| *name == kind).expect("the choices have it");
-    let mut cases = Cases { kind, detail: String::new(), made: Vec::new() };
-    make(random, &mut cases);
-    cases.made
-}
-
 fn pairs(random: &mut Random, cases: &mut Cases) {
     for (kind, _) in choices::GROUP.kinds.iter().filter(|(kind, _)| *kind != choices::WORDS) {
-        for choice in choices_of(random, kind) {
+        for choice in choices::of_kind(random, kind) {
             cases.detail = choice.title();
             let own = random_own(random);
             add(cases, &choice, own);
@@ -120,32 +112,24 @@ fn add_answered(cases: &mut Cases, choice: &Case, own: Own, answer: Option<Strin
 /// What the reply is in a room that is large enough, where it is known what is chosen.
 fn known(choice: &Case, own: Own) -> Option<String> {
     let chosen = choice.answers[0].as_ref()?;
-    let Some(numbers) = chosen.strip_prefix("chosen ") else {
+    if !chosen.starts_with("chosen ") {
         return Some(chosen.clone());
-    };
-    let numbers: Vec<u8> = numbers.split(' ').map(|number| number.parse().expect("a number")).collect();
-    let offer = choice.offer.as_ref()?;
-    let set = offer.proposals.iter().filter(|proposal| proposal.number == numbers[0]);
-    let taken: Vec<_> = set.zip(&numbers[2..]).map(|(proposal, &transform)| taken(proposal, transform, own)).collect();
+    }
+    let mut taken = choices::taken(choice)?;
     if taken.iter().any(|proposal| own.spi(proposal.protocol).is_some_and(|spi| spi < LOWEST_SPI)) {
         return Some(refused(11));
+    }
+    for proposal in &mut taken {
+        proposal.spi = own.spi(proposal.protocol).map_or(Vec::new(), |spi| spi.to_be_bytes().to_vec());
     }
     let reply = sa(Offer { doi: 1, situation: 1, proposals: taken, rest: Vec::new() });
     Some(format!("reply {}", word(&reply.encode_last())))
 }
 
-/// The proposal as it is replied, with that transform alone.
-fn taken(proposal: &Proposal, transform: u8, own: Own) -> Proposal {
-    let mut taken = proposal.clone();
-    taken.transforms.retain(|each| each.number == transform);
-    taken.spi = own.spi(proposal.protocol).map_or(Vec::new(), |spi| spi.to_be_bytes().to_vec());
-    taken
-}
-
 fn every_spi_in_every_room(random: &mut Random, cases: &mut Cases) {
     const SPIS: [u32; 8] = [0, 1, 255, 256, 257, 65_536, 0x8000_0000, u32::MAX];
     const ROOMS: [usize; 8] = [0, 1, 2_047, 2_048, 2_049, 3_000, 4_095, 4_096];
-    let suiting = choices_of(random, "suiting transform");
+    let suiting = choices::of_kind(random, "suiting transform");
     for ah in SPIS {
         for esp in SPIS {
             for room in ROOMS {
@@ -165,7 +149,7 @@ fn first_checks(random: &mut Random, cases: &mut Cases) {
     const NO_SPIS: Own = Own { ah: 0, esp: 0, room: LEAST_ROOM };
     for kind in ["unlawful book", "check of a reading broken", "no SA payload", "no line for the exchange"] {
         cases.detail = kind.to_string();
-        for choice in choices_of(random, kind) {
+        for choice in choices::of_kind(random, kind) {
             add_answered(cases, &choice, NO_ROOM, Some(refused(8_192)));
             add_answered(cases, &choice, NO_SPIS, choice.answers[0].clone());
         }

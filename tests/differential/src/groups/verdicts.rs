@@ -108,11 +108,9 @@ fn examples(_: &mut Random, cases: &mut Cases) {
 /// Some of each kind of the choices.
 fn pairs(random: &mut Random, cases: &mut Cases) {
     const OF_EACH_KIND: usize = 80;
-    for (kind, make) in choices::GROUP.kinds.iter().filter(|(kind, _)| *kind != choices::WORDS) {
-        let mut made = Cases { kind, detail: String::new(), made: Vec::new() };
-        make(random, &mut made);
-        let step = made.made.len().div_ceil(OF_EACH_KIND);
-        for choice in made.made.iter().step_by(step) {
+    for (kind, _) in choices::GROUP.kinds.iter().filter(|(kind, _)| *kind != choices::WORDS) {
+        let made = choices::of_kind(random, kind);
+        for choice in made.iter().step_by(made.len().div_ceil(OF_EACH_KIND)) {
             cases.detail = choice.title();
             let [book, message] = choices::pair(choice);
             add(cases, &book, &message, known(choice, &message));
