@@ -34,8 +34,9 @@ pub struct Comparison {
 /// keep.
 pub type Agreed<'a> = dyn FnMut(&Case, &[String]) + 'a;
 
-/// A run of the programs ends with the case that brings its input to so many bytes, unless lines hang on each other.
-const INPUT_OF_A_RUN: usize = 1 << 22;
+/// A run of the programs ends with the case that brings its input to so many bytes, unless lines hang on each other. The
+/// answers to short lines may be long.
+const INPUT_OF_A_RUN: usize = 1 << 20;
 
 /// Runs all cases and compares every answer.
 pub fn compare(programs: &Programs, cases: &[Case], in_order: bool, agreed: &mut Agreed) -> Comparison {

@@ -13,19 +13,21 @@ pub const GROUP: Group = Group {
     also: super::READ_REFUSALS,
     in_order: false,
     occasions: &[
+        ("pair of a book and a message", 100_000, |case, answers| case.kind == PAIRS && !answers.is_empty()),
         ("replies with AH before ESP", 500, |_, answers| protocols(answers) == [AH, ESP]),
         ("replies with ESP before AH", 500, |_, answers| protocols(answers) == [ESP, AH]),
         ("replies with ESP alone", 500, |_, answers| protocols(answers) == [ESP]),
         ("replies in main mode", 500, |_, answers| protocols(answers) == [ISAKMP]),
     ],
     kinds: &[
-        ("pair of the choices", pairs),
+        (PAIRS, pairs),
         ("every SPI in every room", every_spi_in_every_room),
         ("which check comes first", first_checks),
         ("words of the line", words),
     ],
 };
 
+const PAIRS: &str = "pair of the choices";
 const LEAST_ROOM: usize = 2_048;
 const LARGEST_ROOM: usize = 4_096;
 const LOWEST_SPI: u32 = 256;

@@ -17,6 +17,7 @@ pub const GROUP: Group = Group {
     also: &[],
     in_order: false,
     occasions: &[
+        ("inputs", 4_000, |_, answers| !answers.is_empty()),
         ("nothing suits, said behind the payloads", 100, |_, answers| {
             answers.iter().any(|printed| printed.ends_with(" / refused 14"))
         }),
