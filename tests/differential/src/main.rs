@@ -226,7 +226,7 @@ fn show(request: &Request, group: &Group, case: &Case, difference: &Difference) 
     let number = request.case.filter(|_| !group.in_order).unwrap_or(difference.case);
     [
         format!("{}, answer {} of {}", case.title(), difference.answer, case.answers.len()),
-        format!("  input   {}", shortened(&case.input.escape_ascii().to_string())),
+        format!("  input   {}", shortened(&asked(case, difference.answer).escape_ascii().to_string())),
         format!("  bench   {}", shortened(&answer(&difference.bench))),
         format!("  second  {}", shortened(&answer(&difference.second))),
         format!("  known   {known}"),
@@ -241,6 +241,15 @@ fn show(request: &Request, group: &Group, case: &Case, difference: &Difference) 
         ),
     ]
     .join("\n  ")
+}
+
+/// The line that the answer is for, where every line of the case gets one; all of the input otherwise.
+fn asked(case: &Case, answer: usize) -> &[u8] {
+    let lines: Vec<_> = case.input.split_inclusive(|&byte| byte == b'\n').collect();
+    if lines.len() == case.answers.len() {
+        return lines[answer - 1];
+    }
+    &case.input
 }
 
 fn shortened(line: &str) -> String {
