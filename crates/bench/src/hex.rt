@@ -2,7 +2,7 @@
 use wire::byte;
 use wire::equal;
 ghost use mathlib.Core.Path.{_≡_};
-ghost use Prim.Native.Nat.{_-_, _≤_, _<_};
+ghost use Prim.Native.Nat.{_+_, _-_, _≤_, _<_};
 
 pub(crate) enum Decoded {
     // The place behind the last byte.
@@ -24,6 +24,19 @@ pub(crate) fn value(digit: u8) -> u8
         b'a'..=b'f' => digit - b'a' + 10,
         b'A'..=b'F' => digit - b'A' + 10,
         _ => 16,
+    }
+}
+
+// The digit of a value.
+pub(crate) fn digit(value: u8) -> u8
+    requires { ⌜ value < 16 ⌝ }
+    ensures decimal { λ r. ⌜ (value < 10 → r ≡ 48 + value) ⌝ }
+    ensures lower { λ r. ⌜ (10 ≤ value → r ≡ 87 + value) ⌝ }
+{
+    if value < 10 {
+        b'0' + value
+    } else {
+        b'a' + (value - 10)
     }
 }
 

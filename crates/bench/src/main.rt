@@ -11,6 +11,7 @@ mod lives;
 mod number;
 mod port;
 mod reading;
+mod replying;
 mod say;
 mod verbs;
 mod words;

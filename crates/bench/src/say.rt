@@ -1,7 +1,9 @@
 // Filling a buffer: each function puts something at a place and gives back the place behind it. The line end of an answer
 // is put in verbs.rt, once for all.
+use crate::hex::digit;
 use sequence::receive::LossLine;
 use sequence::receive::Verdict;
+use wire::byte;
 use wire::put_bytes;
 ghost use mathlib.Core.Path.{_≡_};
 ghost use Prim.Native.Nat.{_+_, min};
@@ -35,6 +37,18 @@ pub(crate) fn digits(out: &mut [u8], said: usize, n: u64) -> usize {
 pub(crate) fn number(out: &mut [u8], said: usize, n: u64) -> usize {
     let said = append(out, said, b" ");
     digits(out, said, n)
+}
+
+// Puts bytes in hex.
+pub(crate) fn bytes(out: &mut [u8], said: usize, bytes: &[u8]) -> usize {
+    let mut said = said;
+    let mut i = 0;
+    while i < bytes.len() {
+        let b = byte(bytes, i);
+        said = append(out, said, &[digit(b / 16), digit(b % 16)]);
+        i += 1;
+    }
+    said
 }
 
 pub(crate) fn refused(out: &mut [u8], said: usize, n: u16) -> usize {

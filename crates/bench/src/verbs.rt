@@ -7,6 +7,7 @@ use crate::lent;
 use crate::lives;
 use crate::port;
 use crate::reading;
+use crate::replying;
 use crate::say;
 use crate::say::append;
 use crate::words;
@@ -84,6 +85,9 @@ fn reading_verbs(
     }
     if (words == 3) & equal(verb, b"choose") {
         return choosing::choose(line, bytes, out, said);
+    }
+    if (words == 6) & equal(verb, b"reply") {
+        return replying::answer(line, bytes, out, said);
     }
     table_verbs(line, lives, bytes, out, said)
 }
