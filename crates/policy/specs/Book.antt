@@ -1,11 +1,12 @@
 -- The policy book, document 01, "Policy book and choice": a count byte, main lines, a count byte, quick lines.
 use Prim.Native.Nat.{ℕ, zero, suc, _+_, _*_}
-use mathlib.Core.List.{List}
+use mathlib.Core.List.{List, [], _∷_}
 use mathlib.Core.Bool.{Bool, true, false, not, _||_, _&&_}
 use lib.ListN.{length, getD, take, drop}
 use lib.Dec.{ltb, leb, eqb}
 use Rattle.wire.specs.Wire.{numberAt}
 use Rattle.wire.specs.Tests.{if_then_else_}
+use Rattle.wire.specs.Answer.{Answer, done, refused}
 use Rattle.policy.specs.declared.Book.{Book}
 use Rattle.policy.specs.declared.Book.the-variants.{Refused, Lawful}
 
@@ -65,3 +66,8 @@ bookInFront s =
 -- "Anything else, and bytes left over .. : 8193"
 unfoldable pub bookRead : List ℕ → Book
 bookRead book = if bookInFront book && eqb (bookSize book) (length book) then Lawful (mainCount book) (quickCount book) else Refused 8193
+
+-- the paper's number and values for each case
+unfoldable pub answer : Book → Answer
+answer (Refused number) = refused number
+answer (Lawful main quick) = done (main ∷ quick ∷ [])

@@ -16,13 +16,17 @@ use Rattle.wire.proofs.Tests.{never, clash, by-test}
 use Rattle.message.specs.Message.{message}
 use Rattle.message.specs.declared.Message.the-variants as read
 use Rattle.sets.specs.Parts.{set, setCount, proposal, proposalCount, transformCount}
-use Rattle.policy.specs.Book.{bookRead}
+use Rattle.policy.specs.Book.{bookRead, answer as bookAnswer}
 use Rattle.policy.specs.Suits.{transformSuits, lowest, setSuits}
 use Rattle.policy.specs.Choice.{lineCount, chosen, chooseFrom, saFrom, messageChoice, bookChoice, choice, answer}
+use Rattle.policy.specs.Reply.{answer as replyAnswer}
+use Rattle.policy.specs.declared.Book.{Book}
 use Rattle.policy.specs.declared.Book.the-variants as books
 use Rattle.policy.specs.declared.Transforms.the-variants.{One, Two}
 use Rattle.policy.specs.declared.Choice.{Choice}
 use Rattle.policy.specs.declared.Choice.the-variants.{Refused, Chosen}
+use Rattle.policy.specs.declared.Reply.{Reply}
+use Rattle.policy.specs.declared.Reply.the-variants as replies
 use Rattle.policy.proofs.Laws.{First, none, here, lowest-is, NoLine, Choosing, fourteen, chose, choosing, Suits, suits-says, says-suits}
 
 -- a lawful book, and a message that reads and has an SA payload
@@ -112,3 +116,27 @@ meant-answer (Chosen number line (Two t u)) = refl
 
 pub answer-own : (x y : Choice) → answer x ≡ answer y → x ≡ y
 answer-own x y h = sym (meant-answer x) ∙ ap meant h ∙ meant-answer y
+
+-- ---- nor two books, nor two replies
+
+abbrev meantBook : Answer → Book
+meantBook a = if eqb (length (a .values)) 0 then books.Refused (a .number) else books.Lawful (getD (a .values) 0 0) (getD (a .values) 1 0)
+
+book-meant : (b : Book) → meantBook (bookAnswer b) ≡ b
+unfolding bookAnswer
+book-meant (books.Refused number) = refl
+book-meant (books.Lawful main quick) = refl
+
+pub book-own : (x y : Book) → bookAnswer x ≡ bookAnswer y → x ≡ y
+book-own x y h = sym (book-meant x) ∙ ap meantBook h ∙ book-meant y
+
+abbrev meantReply : Answer → Reply
+meantReply a = if eqb (length (a .values)) 0 then replies.Refused (a .number) else replies.Written (getD (a .values) 0 0)
+
+reply-meant : (r : Reply) → meantReply (replyAnswer r) ≡ r
+unfolding replyAnswer
+reply-meant (replies.Refused number) = refl
+reply-meant (replies.Written size) = refl
+
+pub reply-own : (x y : Reply) → replyAnswer x ≡ replyAnswer y → x ≡ y
+reply-own x y h = sym (reply-meant x) ∙ ap meantReply h ∙ reply-meant y

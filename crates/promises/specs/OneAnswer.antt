@@ -38,6 +38,10 @@ use Rattle.wire.proofs.put_be16.Kinds as wire-put-be16-kinds
 use Rattle.wire.proofs.put_be16.Reads as wire-put-be16-reads
 use Rattle.wire.proofs.put_be32.Kinds as wire-put-be32-kinds
 use Rattle.wire.proofs.put_be32.Reads as wire-put-be32-reads
+use Rattle.wire.proofs.put_head.Kinds as wire-put-head-kinds
+use Rattle.wire.proofs.put_head.Reads as wire-put-head-reads
+use Rattle.wire.proofs.put_headed.Kinds as wire-put-headed-kinds
+use Rattle.wire.proofs.put_headed.Reads as wire-put-headed-reads
 use Rattle.der.proofs.is_element.Kinds as der-is-element-kinds
 use Rattle.der.proofs.is_element.Reads as der-is-element-reads
 use Rattle.der.proofs.is_name.Kinds as der-is-name-kinds
@@ -62,6 +66,8 @@ use Rattle.sets.proofs.set.Kinds as sets-set-kinds
 use Rattle.sets.proofs.set.Reads as sets-set-reads
 use Rattle.sets.proofs.set_count.Kinds as sets-set-count-kinds
 use Rattle.sets.proofs.set_count.Reads as sets-set-count-reads
+use Rattle.sets.proofs.set_numbered.Kinds as sets-set-numbered-kinds
+use Rattle.sets.proofs.set_numbered.Reads as sets-set-numbered-reads
 use Rattle.sets.proofs.proposal.Kinds as sets-proposal-kinds
 use Rattle.sets.proofs.proposal.Reads as sets-proposal-reads
 use Rattle.sets.proofs.proposal_count.Kinds as sets-proposal-count-kinds
@@ -76,6 +82,8 @@ use Rattle.sets.proofs.transform_count.Kinds as sets-transform-count-kinds
 use Rattle.sets.proofs.transform_count.Reads as sets-transform-count-reads
 use Rattle.sets.proofs.transform.Kinds as sets-transform-kinds
 use Rattle.sets.proofs.transform.Reads as sets-transform-reads
+use Rattle.sets.proofs.transform_numbered.Kinds as sets-transform-numbered-kinds
+use Rattle.sets.proofs.transform_numbered.Reads as sets-transform-numbered-reads
 use Rattle.sets.proofs.transform_number.Kinds as sets-transform-number-kinds
 use Rattle.sets.proofs.transform_number.Reads as sets-transform-number-reads
 use Rattle.sets.proofs.transform_id.Kinds as sets-transform-id-kinds
@@ -100,6 +108,10 @@ use Rattle.policy.proofs.lines.read_book.Kinds as policy-read-book-kinds
 use Rattle.policy.proofs.lines.read_book.Reads as policy-read-book-reads
 use Rattle.policy.proofs.choose.choose.Kinds as policy-choose-kinds
 use Rattle.policy.proofs.choose.choose.Reads as policy-choose-reads
+use Rattle.policy.proofs.replies.put_reply.Kinds as policy-put-reply-kinds
+use Rattle.policy.proofs.replies.put_reply.Reads as policy-put-reply-reads
+use Rattle.policy.proofs.replies.reply.Kinds as policy-reply-kinds
+use Rattle.policy.proofs.replies.reply.Reads as policy-reply-reads
 use Rattle.attribute.proofs.attribute_count.Kinds as attribute-attribute-count-kinds
 use Rattle.attribute.proofs.attribute_count.Reads as attribute-attribute-count-reads
 use Rattle.exports.proofs.tallowbrim_read.Kinds as exports-tallowbrim-read-kinds
@@ -130,6 +142,7 @@ use Rattle.sequence.proofs.table.loss.Kinds as sequence-loss-kinds
 use Rattle.sequence.proofs.table.loss.Reads as sequence-loss-reads
 use Rattle.sequence.proofs.receive.step_in_place as sequence-step-in-place-contract
 use Rattle.sequence.proofs.receive.step_lent as sequence-step-lent-contract
+use Rattle.policy.specs.declared.Reply.{Reply}
 use Rattle.sequence.specs.declared.receive.Receive.{Receive}
 use Rattle.sequence.specs.declared.receive.Verdict.{Verdict}
 use Rattle.sequence.specs.declared.receive.Judged.{Judged}
@@ -176,6 +189,12 @@ wire-put-be16 κs arguments x y s t p q = p ∙ sym q
 pub wire-put-be32 : OneAnswer 1 wire-put-be32-kinds.ps wire-put-be32-kinds.r (λ κs x s. now (s .0)) wire-put-be32-reads.Post
 wire-put-be32 κs arguments x y s t p q = p ∙ sym q
 
+pub wire-put-head : OneAnswer 1 wire-put-head-kinds.ps wire-put-head-kinds.r (λ κs x s. now (s .0)) wire-put-head-reads.Post
+wire-put-head κs arguments x y s t p q = p ∙ sym q
+
+pub wire-put-headed : OneAnswer 2 wire-put-headed-kinds.ps wire-put-headed-kinds.r {A = ℕ × List ℕ} (λ κs x s. (x, now (s .0))) wire-put-headed-reads.Post
+wire-put-headed κs arguments x y s t p q = sym p ∙ q
+
 pub der-is-element : OneAnswer 1 der-is-element-kinds.ps der-is-element-kinds.r (λ κs x s. x) der-is-element-reads.Post
 der-is-element κs arguments x y s t p q = p ∙ sym q
 
@@ -212,6 +231,9 @@ sets-set κs arguments x y s t p q = p ∙ sym q
 pub sets-set-count : OneAnswer 1 sets-set-count-kinds.ps sets-set-count-kinds.r (λ κs x s. x) sets-set-count-reads.Post
 sets-set-count κs arguments x y s t p q = p ∙ sym q
 
+pub sets-set-numbered : OneAnswer 1 sets-set-numbered-kinds.ps sets-set-numbered-kinds.r (λ κs x s. now x) sets-set-numbered-reads.Post
+sets-set-numbered κs arguments x y s t p q = p ∙ sym q
+
 pub sets-proposal : OneAnswer 1 sets-proposal-kinds.ps sets-proposal-kinds.r (λ κs x s. now x) sets-proposal-reads.Post
 sets-proposal κs arguments x y s t p q = p ∙ sym q
 
@@ -232,6 +254,9 @@ sets-transform-count κs arguments x y s t p q = p ∙ sym q
 
 pub sets-transform : OneAnswer 1 sets-transform-kinds.ps sets-transform-kinds.r (λ κs x s. now x) sets-transform-reads.Post
 sets-transform κs arguments x y s t p q = p ∙ sym q
+
+pub sets-transform-numbered : OneAnswer 1 sets-transform-numbered-kinds.ps sets-transform-numbered-kinds.r (λ κs x s. now x) sets-transform-numbered-reads.Post
+sets-transform-numbered κs arguments x y s t p q = p ∙ sym q
 
 pub sets-transform-number : OneAnswer 1 sets-transform-number-kinds.ps sets-transform-number-kinds.r (λ κs x s. x) sets-transform-number-reads.Post
 sets-transform-number κs arguments x y s t p q = p ∙ sym q
@@ -268,6 +293,12 @@ policy-read-book κs arguments x y s t p q = p ∙ sym q
 
 pub policy-choose : OneAnswer 2 policy-choose-kinds.ps policy-choose-kinds.r (λ κs x s. x) policy-choose-reads.Post
 policy-choose κs arguments x y s t p q = p ∙ sym q
+
+pub policy-put-reply : OneAnswer 2 policy-put-reply-kinds.ps policy-put-reply-kinds.r {A = ℕ × List ℕ} (λ κs x s. (x, now (s .0))) policy-put-reply-reads.Post
+policy-put-reply κs arguments x y s t p q = sym p ∙ q
+
+pub policy-reply : OneAnswer 3 policy-reply-kinds.ps policy-reply-kinds.r {A = Reply × List ℕ} (λ κs x s. (x, now (s .1 .1 .1 .1 .0))) policy-reply-reads.Post
+policy-reply κs arguments x y s t p q = sym p ∙ q
 
 pub attribute-attribute-count : OneAnswer 1 attribute-attribute-count-kinds.ps attribute-attribute-count-kinds.r (λ κs x s. x) attribute-attribute-count-reads.Post
 attribute-attribute-count κs arguments x y s t p q = p ∙ sym q
