@@ -3,6 +3,9 @@ use Prim.Native.Nat.{ℕ, _+_, _*_}
 use mathlib.Core.List.{List}
 use Rattle.message.specs.declared.Message.{Message}
 use Rattle.message.specs.declared.Message.the-variants.{Refused, Read}
+use Rattle.policy.specs.declared.Choice.{Choice}
+use Rattle.policy.specs.declared.Choice.the-variants as choices
+use Rattle.policy.specs.declared.Transforms.the-variants.{One, Two}
 use Rattle.sequence.specs.declared.receive.Receive.{Receive}
 use Rattle.sequence.specs.declared.receive.Judged.{Judged}
 use Rattle.sequence.specs.declared.receive.Verdict.{Verdict}
@@ -12,6 +15,13 @@ use Rattle.sequence.specs.declared.receive.Verdict.the-variants as Y
 unfoldable pub packed : Message → ℕ
 packed (Refused number) = number
 packed (Read exchange count) = 65536 + 256 * exchange + count
+
+-- a refusal is its number, below 65,536; a choice is five bytes from the high one down: how many transforms, the set, the line, and the one
+-- transform and a 0, or both
+unfoldable pub choicePacked : Choice → ℕ
+choicePacked (choices.Refused number) = number
+choicePacked (choices.Chosen number line (One t)) = 4294967296 + (16777216 * number .0 + 65536 * line .0) + 256 * t .0
+choicePacked (choices.Chosen number line (Two t u)) = 8589934592 + (16777216 * number .0 + 65536 * line .0) + 256 * t .0 + u .0
 
 -- a refusal is its number, below 65,536; 65,536 is an accepted packet
 unfoldable pub verdictPacked : Verdict → ℕ

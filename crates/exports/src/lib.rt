@@ -1,14 +1,20 @@
 // The functions that another language calls: thin, on bytes and numbers; an answer of several parts is packed in one number.
 use message::Message;
+use policy::Choice;
+use policy::LineNumber;
+use policy::Transforms;
 use sequence::receive::Receive;
 use sequence::receive::Verdict;
 use sequence::receive::step_in_place;
 use sequence::table::Table;
+use sets::ProposalNumber;
 ghost use mathlib.Core.Path.{_≡_};
 ghost use Rattle.message.specs.Message.{message};
+ghost use Rattle.policy.specs.Choice.{choice};
+ghost use Rattle.policy.specs.declared.Choice.the-variants.{Chosen};
 ghost use Rattle.sequence.specs.Receive.{judged};
 ghost use Rattle.sequence.specs.Table.{packet};
-ghost use Rattle.exports.specs.Exports.{packed, verdictPacked, judgedPacked, packetPacked};
+ghost use Rattle.exports.specs.Exports.{packed, choicePacked, verdictPacked, judgedPacked, packetPacked};
 
 // Reads a message: the refusal number, or 65,536 + 256 times the exchange + the count of payloads.
 #[no_mangle]
@@ -19,6 +25,29 @@ pub extern "C" fn tallowbrim_read(m: &[u8]) -> u32
     match answer {
         Message::Refused(number) => number as u32,
         Message::Read { exchange, count } => 65536 + 256 * exchange as u32 + count as u32,
+    }
+}
+
+// From the high byte down: how many transforms, the set, the line, the one transform and a 0, or both.
+fn chosen_packed(set: ProposalNumber, line: LineNumber, transforms: Transforms) -> u64
+    ensures { λ r. ⌜ r ≡ choicePacked (Chosen set line transforms) ⌝ }
+{
+    let place = 16777216 * set.0 as u64 + 65536 * line.0 as u64;
+    match transforms {
+        Transforms::One(t) => 4294967296 + place + 256 * t.0 as u64,
+        Transforms::Two(t, u) => 8589934592 + place + 256 * t.0 as u64 + u.0 as u64,
+    }
+}
+
+// Chooses by a book: the refusal number, or what is chosen.
+#[no_mangle]
+pub extern "C" fn tallowbrim_choose(book: &[u8], m: &[u8]) -> u64
+    ensures { λ r. ⌜ r ≡ choicePacked (choice (now (book .entry)) (now (m .entry))) ⌝ }
+{
+    let answer = policy::choose::choose(book, m);
+    match answer {
+        Choice::Refused(number) => number as u64,
+        Choice::Chosen(set, line, transforms) => chosen_packed(set, line, transforms),
     }
 }
 

@@ -116,6 +116,8 @@ use Rattle.attribute.proofs.attribute_count.Kinds as attribute-attribute-count-
 use Rattle.attribute.proofs.attribute_count.Reads as attribute-attribute-count-reads
 use Rattle.exports.proofs.tallowbrim_read.Kinds as exports-tallowbrim-read-kinds
 use Rattle.exports.proofs.tallowbrim_read.Reads as exports-tallowbrim-read-reads
+use Rattle.exports.proofs.tallowbrim_choose.Kinds as exports-tallowbrim-choose-kinds
+use Rattle.exports.proofs.tallowbrim_choose.Reads as exports-tallowbrim-choose-reads
 use Rattle.exports.proofs.tallowbrim_packet.Kinds as exports-tallowbrim-packet-kinds
 use Rattle.exports.proofs.tallowbrim_packet.Reads as exports-tallowbrim-packet-reads
 use Rattle.exports.proofs.tallowbrim_step as exports-tallowbrim-step-contract
@@ -305,6 +307,9 @@ attribute-attribute-count κs arguments x y s t p q = p ∙ sym q
 
 pub exports-tallowbrim-read : OneAnswer 1 exports-tallowbrim-read-kinds.ps exports-tallowbrim-read-kinds.r (λ κs x s. x) exports-tallowbrim-read-reads.Post
 exports-tallowbrim-read κs arguments x y s t p q = p ∙ sym q
+
+pub exports-tallowbrim-choose : OneAnswer 2 exports-tallowbrim-choose-kinds.ps exports-tallowbrim-choose-kinds.r (λ κs x s. x) exports-tallowbrim-choose-reads.Post
+exports-tallowbrim-choose κs arguments x y s t p q = p ∙ sym q
 
 pub sequence-known : OneAnswer 0 sequence-known-kinds.ps sequence-known-kinds.r (λ κs x s. x) sequence-known-reads.Post
 sequence-known κs arguments x y s t p q = p ∙ sym q
