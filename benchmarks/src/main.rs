@@ -1,6 +1,7 @@
-//! Times the proved core from one caller: the reading of messages against the second program, and packets and steps against a window in
-//! Rust and one in C.
+//! Times the proved core from one caller: the reading of messages and the choice against the second program, and packets and steps against
+//! a window in Rust and one in C.
 
+mod choosing;
 mod readers;
 mod samples;
 mod sequence;
@@ -20,8 +21,11 @@ fn main() {
     let ratio = compare("quick mode, four sets", &samples::quick_mode());
     compare("main mode, one proposal", &samples::main_mode());
     compare("quick mode, refused at its last byte", &samples::refused_at_its_last_byte());
+    println!("Nanoseconds a choice, book and message read each time.");
+    let choosing = choosing::ratio();
     println!("record ratio {record}");
     println!("table ratio {table}");
+    println!("choosing ratio {choosing:.2}");
     println!("ratio {ratio:.2}");
 }
 

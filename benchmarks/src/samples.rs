@@ -31,6 +31,34 @@ pub fn quick_mode() -> Vec<u8> {
         (4, AH, 20, &ah),
         (4, ESP, 129, &esp_after_ah),
     ]);
+    quick_mode_with(offer)
+}
+
+/// The same with eight sets of AH with ESP, each with its life in seconds.
+pub fn eight_sets(lives: [u32; 8]) -> Vec<u8> {
+    let sets = lives.map(|life| {
+        let esp = [fixed(4, 1), fixed(1, 1), seconds(2, life)];
+        let ah = [&esp[..], &[fixed(5, 20)]].concat();
+        (ah, esp)
+    });
+    let proposals: Vec<(u8, u8, u8, &[Vec<u8>])> = (1..)
+        .zip(&sets)
+        .flat_map(|(number, (ah, esp))| [(number, AH, 20, &ah[..]), (number, ESP, 129, &esp[..])])
+        .collect();
+    quick_mode_with(sa(&proposals))
+}
+
+/// A book of eight quick lines of AH with ESP in mode 1, each with its longest seconds.
+pub fn eight_lines(longest: [u32; 8]) -> Vec<u8> {
+    let mut book = vec![0, 8];
+    for seconds in longest {
+        book.extend([2, 1]);
+        book.extend(seconds.to_be_bytes());
+    }
+    book
+}
+
+fn quick_mode_with(offer: Vec<u8>) -> Vec<u8> {
     let subnet = [&[4, 0, 0, 0][..], &[192, 0, 2, 0], &[255, 255, 255, 0]].concat();
     let bodies = [
         (HASH, vec![0x5a; 32]),

@@ -1,4 +1,4 @@
-//! The second program's rooms that read a message, taken in as they stand.
+//! The second program's rooms that read a message and choose, taken in as they stand.
 
 #[path = "../../tests/second/src/der.rs"]
 pub mod der;
@@ -8,6 +8,8 @@ pub mod identity;
 pub mod message;
 #[path = "../../tests/second/src/offer.rs"]
 pub mod offer;
+#[path = "../../tests/second/src/policy.rs"]
+pub mod policy;
 #[path = "../../tests/second/src/refusal.rs"]
 pub mod refusal;
 #[path = "../../tests/second/src/wire.rs"]
