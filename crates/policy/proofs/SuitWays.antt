@@ -2,18 +2,52 @@
 use Prim.Native.Nat.{ℕ, zero, suc, _+_, _-_}
 use mathlib.Core.Path.{_≡_, refl, sym, _∙_}
 use mathlib.Core.List.{List}
-use mathlib.Core.Bool.{Bool, true, false, _&&_, _||_}
+use mathlib.Core.Bool.{Bool, true, false, not, _&&_, _||_}
 use native.Mathlib.Omega.{arith}
 use lib.Dec.{eqb, leb}
-use borrow.Author.Tests.{eq-eqb, ne-eqb}
+use borrow.Author.Tests.{eq-eqb, ne-eqb, le-leb}
 use Rattle.wire.specs.Tests.{if_then_else_}
-use Rattle.sets.specs.Parts.{transform, protocol}
+use Rattle.wire.proofs.Tests.{clash}
+use Rattle.sets.specs.Parts.{transform, transformId, attributesOf, protocol, proposal, proposalCount}
 use Rattle.policy.specs.Book.{mainSeconds, quickProtocols, quickMode, quickSeconds}
-use Rattle.policy.specs.Suits.{valueIs, nothingSurplus, quickIntegrity, mainSuits, quickSuits, transformSuits, lowestFrom, protocolsAlone, protocolsBoth, protocolsSuit}
+use Rattle.policy.specs.Suits.{valueIs, nothingSurplus, quickId, lifeWithin, quickIntegrity, mainSuits, quickSuits, transformSuits, lowestFrom, lowest, protocolsAlone, protocolsBoth, protocolsSuit, setSuits}
 
 pub integrity-both : (protocols protocol : ℕ) (attributes : List ℕ) (a b : Bool) → (eqb protocols 2 && eqb protocol 3) ≡ false → a ≡ valueIs 5 20 attributes → b ≡ nothingSurplus 4 attributes → (a && b) ≡ quickIntegrity protocols protocol attributes
 unfolding quickIntegrity
 integrity-both protocols protocol attributes a b h ea eb = rw (h, ← ea, ← eb)
+
+was-false : (b : Bool) → not b ≡ true → b ≡ false
+was-false true h = clash h
+was-false false h = refl
+
+was-true : (b : Bool) → not b ≡ false → b ≡ true
+was-true true h = refl
+was-true false h = clash (sym h)
+
+-- a transform is left at the first test that it does not pass
+module _ (protocols mode seconds protocol : ℕ) (t attributes : List ℕ) (id wanted : ℕ) (ea : attributes ≡ attributesOf t) (ei : id ≡ transformId t) (ew : wanted ≡ quickId protocol) where
+  pub quick-other : (id ≡ wanted → ⊥) → false ≡ quickSuits protocols mode seconds protocol t
+  unfolding quickSuits
+  quick-other h = rw (← ei, ← ew, ne-eqb id wanted h)
+
+  module _ (same : id ≡ wanted) (a : Bool) (em : a ≡ valueIs 4 mode attributes) where
+    pub quick-mode : not a ≡ true → false ≡ quickSuits protocols mode seconds protocol t
+    unfolding quickSuits
+    quick-mode h = rw (← ei, ← ew, eq-eqb id wanted same, ← ea, ← em, was-false a h)
+
+    module _ (in-mode : not a ≡ false) (b : Bool) (eb : b ≡ valueIs 1 1 attributes) where
+      pub quick-unit : not b ≡ true → false ≡ quickSuits protocols mode seconds protocol t
+      unfolding quickSuits
+      quick-unit h = rw (← ei, ← ew, eq-eqb id wanted same, ← ea, ← em, was-true a in-mode, ← eb, was-false b h)
+
+      module _ (in-seconds : not b ≡ false) (l : Bool) (el : l ≡ lifeWithin 2 seconds attributes) where
+        pub quick-life : not l ≡ true → false ≡ quickSuits protocols mode seconds protocol t
+        unfolding quickSuits
+        quick-life h = rw (← ei, ← ew, eq-eqb id wanted same, ← ea, ← em, was-true a in-mode, ← eb, was-true b in-seconds, ← el, was-false l h)
+
+        pub quick-rest : not l ≡ false → (r : Bool) → r ≡ quickIntegrity protocols protocol attributes → r ≡ quickSuits protocols mode seconds protocol t
+        unfolding quickSuits
+        quick-rest h r e = rw (← ei, ← ew, eq-eqb id wanted same, ← ea, ← em, was-true a in-mode, ← eb, was-true b in-seconds, ← el, was-true l h) e
 
 module _ (exchange i : ℕ) (book p : List ℕ) (k : ℕ) (t : List ℕ) (r : Bool) (et : t ≡ transform k p) where
   pub main-transform : exchange ≡ 2 → (seconds : ℕ) → seconds ≡ mainSeconds i book → r ≡ mainSuits seconds t → r ≡ transformSuits exchange i book p k
@@ -55,3 +89,19 @@ module _ (exchange i : ℕ) (book set : List ℕ) (r : Bool) where
     pub protocols-both : (protocols ≡ 1 → ⊥) → r ≡ protocolsBoth set → r ≡ protocolsSuit exchange i book set
     unfolding protocolsSuit
     protocols-both h e = rw (ne-eqb exchange 2 quick, ← ep, ne-eqb protocols 1 h) e
+
+-- a set is left at its protocols, or at its first proposal
+module _ (exchange i : ℕ) (book set : List ℕ) (b : Bool) (eb : b ≡ protocolsSuit exchange i book set) where
+  pub set-protocols : not b ≡ true → false ≡ setSuits exchange i book set
+  unfolding setSuits
+  set-protocols h = rw (← eb, was-false b h)
+
+  module _ (suit : not b ≡ false) (p : List ℕ) (low : ℕ) (ep : p ≡ proposal 0 set) (el : low ≡ lowest exchange i book p) where
+    pub set-first : low ≡ 0 → false ≡ setSuits exchange i book set
+    unfolding setSuits
+    set-first h = rw (← eb, was-true b suit, ← ep, ← el, h)
+
+    pub set-rest : (low ≡ 0 → ⊥) → (count : ℕ) (q : List ℕ) (low2 : ℕ) → count ≡ proposalCount set → q ≡ proposal 1 set → low2 ≡ lowest exchange i book q →
+        (eqb count 1 || leb 1 low2) ≡ setSuits exchange i book set
+    unfolding setSuits
+    set-rest h count q low2 ec eq el2 = rw (← eb, was-true b suit, ← ep, ← el, le-leb 1 low (omega arith), ← ec, ← eq, ← el2)

@@ -78,11 +78,19 @@ fn quick_suits(protocols: u8, mode: u8, seconds: u32, protocol: u8, t: &[u8]) ->
     ensures { λ r. ⌜ r ≡ quickSuits protocols mode seconds protocol (now (t .entry)) ⌝ }
 {
     let attributes = attributes_of(t);
-    (transform_id(t) == quick_id(protocol))
-        & value_is(4, mode as u32, attributes)
-        & value_is(1, 1, attributes)
-        & life_within(2, seconds, attributes)
-        & quick_integrity(protocols, protocol, attributes)
+    if transform_id(t) != quick_id(protocol) {
+        return false;
+    }
+    if !value_is(4, mode as u32, attributes) {
+        return false;
+    }
+    if !value_is(1, 1, attributes) {
+        return false;
+    }
+    if !life_within(2, seconds, attributes) {
+        return false;
+    }
+    quick_integrity(protocols, protocol, attributes)
 }
 
 // Whether transform k of a proposal suits line i of the exchange, both counted from 0.
@@ -152,7 +160,11 @@ fn protocols_suit(exchange: u8, i: u8, book: &[u8], set: &[u8]) -> bool
 pub(crate) fn set_suits(exchange: u8, i: u8, book: &[u8], set: &[u8]) -> bool
     ensures { λ r. ⌜ r ≡ setSuits exchange i (now (book .entry)) (now (set .entry)) ⌝ }
 {
-    protocols_suit(exchange, i, book, set)
-        & (1 <= lowest(exchange, i, book, proposal(0, set)))
-        & ((proposal_count(set) == 1) | (1 <= lowest(exchange, i, book, proposal(1, set))))
+    if !protocols_suit(exchange, i, book, set) {
+        return false;
+    }
+    if lowest(exchange, i, book, proposal(0, set)) == 0 {
+        return false;
+    }
+    (proposal_count(set) == 1) | (1 <= lowest(exchange, i, book, proposal(1, set)))
 }

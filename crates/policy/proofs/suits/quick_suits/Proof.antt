@@ -1,18 +1,21 @@
-use Rattle.policy.specs.Suits.{quickSuits}
+use Rattle.policy.proofs.SuitWays.{quick-other, quick-mode, quick-unit, quick-life, quick-rest}
 use borrow.Author.Needs.{needs}
 use Rattle.policy.proofs.suits.quick_suits.Statement.{statement}
 use Rattle.policy.proofs.suits.quick_suits.Tie as tie
 
 pub quick-suits-spec : {M : Type 1} → statement M
-unfolding quickSuits
 quick-suits-spec =
     tie.close
     (tie.spec
     (λ c κs. search needs)
     (λ c κs. search needs)
     (λ c κs. search needs)
+    (λ c. search quick-other)
     (λ c κs. search needs)
+    (λ c. search quick-mode)
     (λ c κs. search needs)
+    (λ c. search quick-unit)
     (λ c κs. search needs)
+    (λ c. search quick-life)
     (λ c κs. search needs)
-    (λ c. cc))
+    (λ c. search quick-rest))
