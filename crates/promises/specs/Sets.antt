@@ -12,8 +12,9 @@ use Rattle.wire.specs.Tests.{if_then_else_}
 use Rattle.wire.proofs.Tests.{by-test}
 use Rattle.offer.specs.Proposals.{offerCode}
 use Rattle.sets.specs.Parts.{skip, parts, firstItem, afterItem, setEnd, firstSet, afterSet, set, setCount, proposal, proposalCount, proposalNumber}
-use Rattle.offer.proofs.Laws.{Item, Rising, end, on}
+use Rattle.offer.proofs.Laws.{Rising, end, on}
 use Rattle.sets.proofs.Laws.{Same, same-end, same-on, Sets, sets-end, sets-on, Parted, parted, first-item, after-item}
+use Rattle.sets.proofs.Places.{least-at, item-at, same-at}
 
 -- ---- what is promised
 
@@ -96,7 +97,7 @@ module _ (first rest : List ℕ → List ℕ) where
 
 -- ---- proposals
 
-items-listed : {least : ℕ} {ps : List (List ℕ)} → Rising least ps → (left : ℕ) → length ps ≤ left → handed firstItem afterItem left (flatten ps) ≡ ps
+items-listed : {exchange least : ℕ} {ps : List (List ℕ)} → Rising exchange least ps → (left : ℕ) → length ps ≤ left → handed firstItem afterItem left (flatten ps) ≡ ps
 unfolding flatten
 items-listed end left h = handed-none firstItem afterItem left
 items-listed (on i o r) zero h = absurd (omega arith)
@@ -104,26 +105,16 @@ items-listed (on {p = p} {ps = ps} i o r) (suc left) h =
     handed-on firstItem afterItem left (p ++ flatten ps) (omega (arith, length-append p (flatten ps)))
     ∙ rw (first-item p (flatten ps) i, after-item p (flatten ps) i) (ap (λ (l : List (List ℕ)). p ∷ l) (items-listed r left (omega arith)))
 
-proposals-of : {least : ℕ} {ps : List (List ℕ)} → Rising least ps → length ps ≤ 16 → proposals (flatten ps) ≡ ps
+proposals-of : {exchange least : ℕ} {ps : List (List ℕ)} → Rising exchange least ps → length ps ≤ 16 → proposals (flatten ps) ≡ ps
 unfolding proposals proposal proposalCount
 proposals-of r few = items-listed r 16 few
 
-least-at : {least : ℕ} {ps : List (List ℕ)} → Rising least ps → (j : ℕ) → j < length ps → least ≤ getD (getD ps j []) 4 0
-least-at end j h = absurd (omega arith)
-least-at (on i o r) zero h = o
-least-at (on i o r) (suc j) h = omega (arith, least-at r j (omega arith))
-
-rising-at : {least : ℕ} {ps : List (List ℕ)} → Rising least ps → (i j : ℕ) → i ≤ j → j < length ps → getD (getD ps i []) 4 0 ≤ getD (getD ps j []) 4 0
+rising-at : {exchange least : ℕ} {ps : List (List ℕ)} → Rising exchange least ps → (i j : ℕ) → i ≤ j → j < length ps → getD (getD ps i []) 4 0 ≤ getD (getD ps j []) 4 0
 rising-at end i j h g = absurd (omega arith)
 rising-at (on i o r) zero zero h g = omega arith
 rising-at (on i o r) zero (suc k) h g = least-at r k (omega arith)
 rising-at (on i o r) (suc j) zero h g = absurd (omega arith)
 rising-at (on i o r) (suc j) (suc k) h g = rising-at r j k (omega arith) (omega arith)
-
-item-at : {least : ℕ} {ps : List (List ℕ)} → Rising least ps → (j : ℕ) → j < length ps → Item (getD ps j [])
-item-at end j h = absurd (omega arith)
-item-at (on i o r) zero h = i
-item-at (on i o r) (suc j) h = item-at r j (omega arith)
 
 module _ (s : List ℕ) (ps : List (List ℕ)) (e : proposals s ≡ ps) where
   count : proposalCount s ≡ length ps
@@ -134,7 +125,7 @@ module _ (s : List ℕ) (ps : List (List ℕ)) (e : proposals s ≡ ps) where
   unfolding proposals
   place = part-of (λ k. proposal k s) (proposalCount s) ps e
 
-  side-by-side : {least : ℕ} → flatten ps ≡ s → Rising least ps → SideBySide s
+  side-by-side : {exchange least : ℕ} → flatten ps ≡ s → Rising exchange least ps → SideBySide s
   unfolding proposalNumber
   side-by-side w r = record { whole = ap flatten e ∙ w; own-length = lengths; never-fall = falls; between = λ i j k a b c same. omega (arith, falls i j a (omega arith), falls j k b c) }
     where
@@ -146,7 +137,7 @@ module _ (s : List ℕ) (ps : List (List ℕ)) (e : proposals s ≡ ps) where
 
 -- ---- sets
 
-sets-listed : {least : ℕ} {s : List ℕ} {gs : List (List (List ℕ))} → Sets least s gs → (left : ℕ) → length gs ≤ left → handed firstSet afterSet left s ≡ map flatten gs
+sets-listed : {exchange least : ℕ} {s : List ℕ} {gs : List (List (List ℕ))} → Sets exchange least s gs → (left : ℕ) → length gs ≤ left → handed firstSet afterSet left s ≡ map flatten gs
 sets-listed sets-end left h = handed-none firstSet afterSet left
 sets-listed (sets-on z f r m c g) zero h = absurd (omega arith)
 sets-listed (sets-on {s = s} {gs = gs} z f r m c g) (suc left) h =
@@ -157,20 +148,15 @@ set-rest : (s : List ℕ) → firstSet s ++ afterSet s ≡ s
 unfolding firstSet afterSet
 set-rest s = take-append-drop (setEnd 16 (getD s 4 0) s 0) s
 
-sets-whole : {least : ℕ} {s : List ℕ} {gs : List (List (List ℕ))} → Sets least s gs → flatten (map flatten gs) ≡ s
+sets-whole : {exchange least : ℕ} {s : List ℕ} {gs : List (List (List ℕ))} → Sets exchange least s gs → flatten (map flatten gs) ≡ s
 unfolding flatten
 sets-whole sets-end = refl
 sets-whole (sets-on {s = s} z f r m c g) = rw (← f, sets-whole g) (set-rest s)
 
-sets-proposals : {least : ℕ} {s : List ℕ} {gs : List (List (List ℕ))} → Sets least s gs → flatMap proposals (map flatten gs) ≡ flatten gs
+sets-proposals : {exchange least : ℕ} {s : List ℕ} {gs : List (List (List ℕ))} → Sets exchange least s gs → flatMap proposals (map flatten gs) ≡ flatten gs
 unfolding flatten flatMap
 sets-proposals sets-end = refl
 sets-proposals (sets-on z f r m c g) = rw (proposals-of r c, sets-proposals g)
-
-same-at : {n : ℕ} {ps : List (List ℕ)} → Same n ps → (j : ℕ) → j < length ps → getD (getD ps j []) 4 0 ≡ n
-same-at same-end j h = absurd (omega arith)
-same-at (same-on e m) zero h = e
-same-at (same-on e m) (suc j) h = same-at m j (omega arith)
 
 -- one set's proposals, as a list
 record Group (g : List (List ℕ)) : Type 0 where
@@ -178,17 +164,17 @@ record Group (g : List (List ℕ)) : Type 0 where
   read : proposals (flatten g) ≡ g
   same : Same (getD (getD g 0 []) 4 0) g
 
-group-at : {least : ℕ} {s : List ℕ} {gs : List (List (List ℕ))} → Sets least s gs → (k : ℕ) → k < length gs → Group (getD gs k [])
+group-at : {exchange least : ℕ} {s : List ℕ} {gs : List (List (List ℕ))} → Sets exchange least s gs → (k : ℕ) → k < length gs → Group (getD gs k [])
 group-at sets-end k h = absurd (omega arith)
 group-at (sets-on z f r m c g) zero h = record { some = omega arith; read = proposals-of r c; same = same-on refl m }
 group-at (sets-on z f r m c g) (suc k) h = group-at g k (omega arith)
 
-first-at : {least : ℕ} {s : List ℕ} {gs : List (List (List ℕ))} → Sets least s gs → (k : ℕ) → k < length gs → least ≤ getD (getD (getD gs k []) 0 []) 4 0
+first-at : {exchange least : ℕ} {s : List ℕ} {gs : List (List (List ℕ))} → Sets exchange least s gs → (k : ℕ) → k < length gs → least ≤ getD (getD (getD gs k []) 0 []) 4 0
 first-at sets-end k h = absurd (omega arith)
 first-at (sets-on z f r m c g) zero h = least-at r 0 (omega arith)
 first-at (sets-on z f r m c g) (suc k) h = omega (arith, least-at r 0 (omega arith), first-at g k (omega arith))
 
-apart-at : {least : ℕ} {s : List ℕ} {gs : List (List (List ℕ))} → Sets least s gs → (k l : ℕ) → k < l → l < length gs →
+apart-at : {exchange least : ℕ} {s : List ℕ} {gs : List (List (List ℕ))} → Sets exchange least s gs → (k l : ℕ) → k < l → l < length gs →
     getD (getD (getD gs k []) 0 []) 4 0 < getD (getD (getD gs l []) 0 []) 4 0
 apart-at sets-end k l h i = absurd (omega arith)
 apart-at (sets-on z f r m c g) k zero h i = absurd (omega arith)
@@ -213,14 +199,14 @@ module _ (n : ℕ) where
   numbered-other same-end h = refl
   numbered-other (same-on {p = p} e m) h = rw (ne-eqb (getD p 4 0) n (λ x. h (sym e ∙ x))) (numbered-other m h)
 
-  numbered-above : {least : ℕ} {s : List ℕ} {gs : List (List (List ℕ))} → Sets least s gs → n < least → numbered n (flatten gs) ≡ []
+  numbered-above : {exchange least : ℕ} {s : List ℕ} {gs : List (List (List ℕ))} → Sets exchange least s gs → n < least → numbered n (flatten gs) ≡ []
   unfolding flatten
   numbered-above sets-end h = unfold numbered in refl
   numbered-above (sets-on {p = p} {ps = ps} {gs = gs} z f r m c g) h =
       let above : n < getD p 4 0 = omega (arith, least-at r 0 (omega arith)) in
       numbered-append (p ∷ ps) (flatten gs) ∙ rw (numbered-other (same-on {p = p} refl m) (λ x. omega arith), numbered-above g (omega arith))
 
-all-at : {least : ℕ} {s : List ℕ} {gs : List (List (List ℕ))} → Sets least s gs → (k : ℕ) → k < length gs →
+all-at : {exchange least : ℕ} {s : List ℕ} {gs : List (List (List ℕ))} → Sets exchange least s gs → (k : ℕ) → k < length gs →
     numbered (getD (getD (getD gs k []) 0 []) 4 0) (flatten gs) ≡ getD gs k []
 unfolding flatten
 all-at sets-end k h = absurd (omega arith)
@@ -247,7 +233,7 @@ module _ (s : List ℕ) (g : List (List ℕ)) (e : s ≡ flatten g) (o : Group g
         all-of-it = rw set-first (listing ∙ sym a);
       }
 
-module _ (body : List ℕ) (r : Parted body) where
+module _ {exchange : ℕ} (body : List ℕ) (r : Parted exchange body) where
   listing : proposals (drop 8 body) ≡ r .proposals
   listing = rw (← r .whole) (proposals-of (r .rising) (r .few))
 

@@ -19,7 +19,7 @@ use Rattle.offer.proofs.Laws.{Item, Rising, end, on, offer-reads}
 
 -- ---- the proposals
 
-module _ (p s : List ℕ) (item : Item p) where
+module _ {exchange : ℕ} (p s : List ℕ) (item : Item exchange p) where
   pub first-item : firstItem (p ++ s) ≡ p
   unfolding firstItem
   first-item = rw (number-append 2 p s 2 (omega arith), item .lies) (take-append-seam p s)
@@ -56,12 +56,12 @@ module _ (n : ℕ) where
   back-few : (ps : List (List ℕ)) → length (back n ps) ≤ length ps
   back-few ps = omega (arith, length-append (front n ps) (back n ps), ap length (front-back ps))
 
-  front-rising : {least : ℕ} {ps : List (List ℕ)} → Rising least ps → Rising least (front n ps)
+  front-rising : {exchange least : ℕ} {ps : List (List ℕ)} → Rising exchange least ps → Rising exchange least (front n ps)
   unfolding front
   front-rising end = end
   front-rising (on {p = p} i o r) = by-test (eqb (getD p 4 0) n) (λ e. rw e (on i o (front-rising r))) (λ e. rw e end)
 
-  back-rising : {least : ℕ} {ps : List (List ℕ)} → Rising least ps → n ≤ least → Rising (suc n) (back n ps)
+  back-rising : {exchange least : ℕ} {ps : List (List ℕ)} → Rising exchange least ps → n ≤ least → Rising exchange (suc n) (back n ps)
   unfolding back
   back-rising end h = end
   back-rising (on {p = p} i o r) h =
@@ -73,13 +73,23 @@ module _ (n : ℕ) where
   front-same [] = same-end
   front-same (p ∷ ps) = by-test (eqb (getD p 4 0) n) (λ e. rw e (same-on (eqb-true (getD p 4 0) n e) (front-same ps))) (λ e. rw e same-end)
 
+  same-front : {ps : List (List ℕ)} → Same n ps → front n ps ≡ ps
+  unfolding front
+  same-front same-end = refl
+  same-front (same-on {p = p} {ps = ps} e m) = rw (eq-eqb (getD p 4 0) n e) (ap (λ (l : List (List ℕ)). p ∷ l) (same-front m))
+
+  same-back : {ps : List (List ℕ)} → Same n ps → back n ps ≡ []
+  unfolding back
+  same-back same-end = refl
+  same-back (same-on {p = p} e m) = rw (eq-eqb (getD p 4 0) n e) (same-back m)
+
 flatten-append : (xs ys : List (List ℕ)) → flatten (xs ++ ys) ≡ flatten xs ++ flatten ys
 unfolding flatten
 flatten-append [] ys = refl
 flatten-append (x ∷ xs) ys = rw (flatten-append xs ys) (sym (append-assoc x (flatten xs) (flatten ys)))
 
 -- setEnd goes by places: it ends behind the proposals at the front
-set-end : (n : ℕ) (a : List ℕ) {least : ℕ} {ps : List (List ℕ)} → Rising least ps → (left : ℕ) → length ps ≤ left →
+set-end : (n : ℕ) (a : List ℕ) {exchange least : ℕ} {ps : List (List ℕ)} → Rising exchange least ps → (left : ℕ) → length ps ≤ left →
     setEnd left n (a ++ flatten ps) (length a) ≡ length a + length (flatten (front n ps))
 unfolding setEnd front flatten
 set-end n a end zero h = omega arith
@@ -96,7 +106,7 @@ set-end n a (on {p = p} {ps = ps} i o r) (suc left) h =
     (set-end n (a ++ p) r left (omega arith) ∙ omega (arith, length-append a p, length-append p (flatten (front n ps)))))
     (λ e. rw (long, number, e) (omega arith))
 
-module _ (p : List ℕ) (ps : List (List ℕ)) (item : Item p) (r : Rising (getD p 4 0) ps) (few : length (p ∷ ps) ≤ 16) where
+module _ {exchange : ℕ} (p : List ℕ) (ps : List (List ℕ)) (item : Item exchange p) (r : Rising exchange (getD p 4 0) ps) (few : length (p ∷ ps) ≤ 16) where
   set-whole : flatten (p ∷ ps) ≡ flatten (p ∷ front (getD p 4 0) ps) ++ flatten (back (getD p 4 0) ps)
   set-whole = ap (λ (l : List (List ℕ)). flatten (p ∷ l)) (sym (front-back (getD p 4 0) ps)) ∙ flatten-append (p ∷ front (getD p 4 0) ps) (back (getD p 4 0) ps)
 
@@ -116,12 +126,20 @@ module _ (p : List ℕ) (ps : List (List ℕ)) (item : Item p) (r : Rising (getD
   unfolding afterSet
   after-set = rw (set-first-end, set-whole) (drop-append-seam (flatten (p ∷ front (getD p 4 0) ps)) (flatten (back (getD p 4 0) ps)))
 
+  -- proposals of one number are one set, and nothing follows it
+  pub alone-first : Same (getD p 4 0) ps → firstSet (flatten (p ∷ ps)) ≡ flatten (p ∷ ps)
+  alone-first m = first-set ∙ ap (λ (l : List (List ℕ)). flatten (p ∷ l)) (same-front (getD p 4 0) m)
+
+  pub alone-after : Same (getD p 4 0) ps → afterSet (flatten (p ∷ ps)) ≡ []
+  unfolding flatten
+  alone-after m = after-set ∙ ap (λ (l : List (List ℕ)). flatten l) (same-back (getD p 4 0) m)
+
 -- the sets of bytes that read, as they are taken off one by one: each of one number, the numbers rising
-pub data Sets : ℕ → List ℕ → List (List (List ℕ)) → Type 0 where
-  sets-end : {least : ℕ} → Sets least [] []
+pub data Sets (exchange : ℕ) : ℕ → List ℕ → List (List (List ℕ)) → Type 0 where
+  sets-end : {least : ℕ} → Sets exchange least [] []
   sets-on : {least : ℕ} {s p : List ℕ} {ps : List (List ℕ)} {gs : List (List (List ℕ))} →
-      0 < length s → firstSet s ≡ flatten (p ∷ ps) → Rising least (p ∷ ps) → Same (getD p 4 0) ps → length (p ∷ ps) ≤ 16
-      → Sets (suc (getD p 4 0)) (afterSet s) gs → Sets least s ((p ∷ ps) ∷ gs)
+      0 < length s → firstSet s ≡ flatten (p ∷ ps) → Rising exchange least (p ∷ ps) → Same (getD p 4 0) ps → length (p ∷ ps) ≤ 16
+      → Sets exchange (suc (getD p 4 0)) (afterSet s) gs → Sets exchange least s ((p ∷ ps) ∷ gs)
 
 -- the proposals, one list a set
 grouped : ℕ → List (List ℕ) → List (List (List ℕ))
@@ -143,36 +161,36 @@ grouped-joined (suc left) [] h = refl
 grouped-joined (suc left) (p ∷ ps) h =
     ap (λ (l : List (List ℕ)). p ∷ l) (rw (grouped-joined left (back (getD p 4 0) ps) (omega (arith, back-few (getD p 4 0) ps))) (front-back (getD p 4 0) ps))
 
-flatten-some : (p : List ℕ) (ps : List (List ℕ)) → Item p → 0 < length (flatten (p ∷ ps))
+pub flatten-some : {exchange : ℕ} (p : List ℕ) (ps : List (List ℕ)) → Item exchange p → 0 < length (flatten (p ∷ ps))
 unfolding flatten
 flatten-some p ps i = omega (arith, length-append p (flatten ps))
 
-grouped-sets : (left : ℕ) {least : ℕ} {ps : List (List ℕ)} → Rising least ps → length ps ≤ left → length ps ≤ 16 → Sets least (flatten ps) (grouped left ps)
+grouped-sets : (left : ℕ) {exchange least : ℕ} {ps : List (List ℕ)} → Rising exchange least ps → length ps ≤ left → length ps ≤ 16 → Sets exchange least (flatten ps) (grouped left ps)
 unfolding grouped
 grouped-sets zero end h few = unfold flatten in sets-end
 grouped-sets zero (on i o r) h few = absurd (omega arith)
 grouped-sets (suc left) end h few = unfold flatten in sets-end
-grouped-sets (suc left) (on {p = p} {ps = ps} i o r) h few =
+grouped-sets (suc left) {exchange} (on {p = p} {ps = ps} i o r) h few =
     let n : ℕ = getD p 4 0 in
     let fewer : length (p ∷ front n ps) ≤ 16 = omega (arith, front-few n ps) in
-    let rest : Sets (suc n) (flatten (back n ps)) (grouped left (back n ps)) = grouped-sets left (back-rising n r (omega arith)) (omega (arith, back-few n ps)) (omega (arith, back-few n ps)) in
+    let rest : Sets exchange (suc n) (flatten (back n ps)) (grouped left (back n ps)) = grouped-sets left (back-rising n r (omega arith)) (omega (arith, back-few n ps)) (omega (arith, back-few n ps)) in
     sets-on (flatten-some p ps i) (first-set p ps i r few) (on i o (front-rising n r)) (front-same n ps) fewer (rw (← after-set p ps i r few) at rest)
 
 -- a readable offer: its proposals, and the same by sets
-pub record Parted (body : List ℕ) : Type 0 where
+pub record Parted (exchange : ℕ) (body : List ℕ) : Type 0 where
   pub proposals : List (List ℕ)
   pub whole : flatten proposals ≡ drop 8 body
-  pub rising : Rising 0 proposals
+  pub rising : Rising exchange 0 proposals
   pub few : length proposals ≤ 16
   pub sets : List (List (List ℕ))
   pub joined : flatten sets ≡ proposals
-  pub apart : Sets 0 (drop 8 body) sets
+  pub apart : Sets exchange 0 (drop 8 body) sets
   pub at-most : length sets ≤ 16
 
-pub parted : (exchange : ℕ) (body : List ℕ) → offerCode exchange body ≡ 0 → Parted body
+pub parted : (exchange : ℕ) (body : List ℕ) → offerCode exchange body ≡ 0 → Parted exchange body
 parted exchange body h =
     let r = offer-reads exchange body h in
-    let sets : Sets 0 (flatten (r .items)) (grouped 16 (r .items)) = grouped-sets 16 (r .rising) (r .few) (r .few) in
+    let sets : Sets exchange 0 (flatten (r .items)) (grouped 16 (r .items)) = grouped-sets 16 (r .rising) (r .few) (r .few) in
     record {
       proposals = r .items;
       whole = r .whole;
