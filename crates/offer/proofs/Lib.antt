@@ -1,3 +1,4 @@
 pub mod Laws
+pub mod Written
 mod TransformWays
 mod ProposalWays
