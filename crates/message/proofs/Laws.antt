@@ -1,0 +1,218 @@
+-- What a message that reads consists of: its payloads one behind the other from byte 28 on, an SA payload among them with a body that reads.
+-- And when a message of one SA payload reads.
+use Prim.Native.Nat.{ℕ, zero, suc, _+_, _≤_, _<_}
+use mathlib.Core.Path.{_≡_, refl, sym, ap, _∙_}
+use mathlib.Core.List.{List, [], _∷_}
+use mathlib.Core.Bool.{Bool, true, false, not, _||_, _&&_}
+use native.Mathlib.Omega.{arith}
+use native.Mathlib.Nat.{add-zero}
+use lib.ListN.{length, getD, take, drop, length-drop}
+use lib.Seq.{getD-drop, drop-drop, drop-length, take-length}
+use lib.Dec.{ltb, eqb}
+use borrow.Author.Tests.{eqb-true, ne-eqb, ltb-false, le-ltb, not-false}
+use Rattle.wire.specs.Wire.{numberAt}
+use Rattle.wire.specs.Tests.{if_then_else_}
+use Rattle.wire.proofs.Tests.{never, neither, by-test, passed}
+use Rattle.wire.proofs.Laws.{number-drop}
+use Rattle.offer.specs.Proposals.{offerCode}
+use Rattle.message.specs.Header.{exchangeOf, flagsOf, firstPayload, lengthWrong, headerCode}
+use Rattle.message.specs.Payloads.{typeWrong, lengthOut, bodyCode, bodyOf, payloadCode, restCode}
+use Rattle.message.specs.Message.{Reading, refused, payloads, first, chain, reading, counted, message, walk, payloadAt}
+use Rattle.message.specs.declared.Payload.{Payload}
+use Rattle.message.specs.declared.Message.{Message}
+use Rattle.message.specs.declared.Message.the-variants.{Refused, Read}
+
+abbrev nowhere : Payload
+nowhere = record { kind = 0; start = 0; length = 0 }
+
+-- payload j of a reading
+abbrev pub nth : List Payload → ℕ → Payload
+nth ps j = getD ps j nowhere
+
+-- ---- the walk
+
+pub walk-start : (k type start : ℕ) (m : List ℕ) → walk (suc k) type start m .start ≡ walk k type start m .start + walk k type start m .length
+unfolding walk
+walk-start zero type start m = refl
+walk-start (suc k) type start m = walk-start k (getD m start 0) (start + numberAt 2 m (start + 2)) m
+
+-- ---- one payload
+
+-- a payload that is not refused ends within its message, and its body is not refused
+payload-body : (exchange : ℕ) (another : Bool) (type : ℕ) (s : List ℕ) → payloadCode exchange another type s ≡ 0 → (numberAt 2 s 2 ≤ length s) × (bodyCode exchange another type (bodyOf s) ≡ 0)
+unfolding payloadCode lengthOut
+payload-body exchange another type s h =
+    let allowed = passed (typeWrong exchange type) 1 _ (λ z. omega arith) h in
+    let long = passed (ltb (length s) 4) 16 _ (λ z. omega arith) (allowed .1) in
+    let reserved = passed (not (eqb (getD s 1 0) 0)) 16 _ (λ z. omega arith) (long .1) in
+    let bounds = passed (lengthOut s) 30 _ (λ z. omega arith) (reserved .1) in
+    (ltb-false (length s) (numberAt 2 s 2) (neither (ltb (numberAt 2 s 2) 4) (ltb (length s) (numberAt 2 s 2)) (bounds .0) .1), bounds .1)
+
+payload-within : (exchange : ℕ) (another : Bool) (type : ℕ) (s : List ℕ) → payloadCode exchange another type s ≡ 0 → numberAt 2 s 2 ≤ length s
+payload-within exchange another type s h = payload-body exchange another type s h .0
+
+-- "a second SA payload is 15 unread": one that is not refused reads
+offer-body : (exchange : ℕ) (another : Bool) (type : ℕ) (body : List ℕ) → type ≡ 1 → bodyCode exchange another type body ≡ 0 → offerCode exchange body ≡ 0
+unfolding bodyCode
+offer-body exchange another type body e h = passed another 15 (offerCode exchange body) (λ z. omega arith) (rw e at h) .1
+
+payload-offer : (exchange : ℕ) (another : Bool) (type : ℕ) (s : List ℕ) → payloadCode exchange another type s ≡ 0 → type ≡ 1 → offerCode exchange (bodyOf s) ≡ 0
+payload-offer exchange another type s h e = offer-body exchange another type (bodyOf s) e (payload-body exchange another type s h .1)
+
+-- ---- the chain: of left payloads at most, the first of this type at start
+
+pub record Found (exchange left : ℕ) (m : List ℕ) (type start : ℕ) (ps : List Payload) : Type 0 where
+  pub walked : (j : ℕ) → j < length ps → walk j type start m ≡ nth ps j
+  pub inside : (j : ℕ) → j < length ps → nth ps j .start + nth ps j .length ≤ length m
+  pub measured : (j : ℕ) → j < length ps → nth ps j .length ≡ numberAt 2 (drop (nth ps j .start) m) 2
+  pub offers : (j : ℕ) → j < length ps → nth ps j .kind ≡ 1 → offerCode exchange (bodyOf (drop (nth ps j .start) m)) ≡ 0
+  pub few : length ps ≤ left
+
+-- what follows the first payload was found too
+first-found : (p : Payload) (r : Reading) (ps : List Payload) → first p r ≡ payloads ps → (qs : List Payload) × (r ≡ payloads qs) × (ps ≡ p ∷ qs)
+unfolding first
+first-found p (refused number) ps e = never (cc)
+first-found p (payloads qs) ps e = (qs, refl, cc)
+
+-- nothing was found beyond the last
+none-found : (exchange left : ℕ) (m : List ℕ) (type start : ℕ) → Found exchange left m type start []
+none-found exchange left m type start = record {
+  walked = λ j l. absurd (omega arith);
+  inside = λ j l. absurd (omega arith);
+  measured = λ j l. absurd (omega arith);
+  offers = λ j l. absurd (omega arith);
+  few = omega arith;
+}
+
+-- one payload more, in front
+module _ (exchange left : ℕ) (m : List ℕ) (type start : ℕ) (ps : List Payload) (h : start ≤ length m) (fits : numberAt 2 (drop start m) 2 ≤ length (drop start m)) (offer : type ≡ 1 → offerCode exchange (bodyOf (drop start m)) ≡ 0) where
+  abbrev all : List Payload
+  all = record { kind = type; start = start; length = numberAt 2 (drop start m) 2 } ∷ ps
+
+  more-found : Found exchange left m (getD (drop start m) 0 0) (start + numberAt 2 (drop start m) 2) ps → Found exchange (suc left) m type start all
+  unfolding walk
+  more-found f = record { walked = walked; inside = inside; measured = measured; offers = offers; few = omega (arith, f .few) }
+    where
+      walked : (j : ℕ) → j < suc (length ps) → walk j type start m ≡ nth all j
+      walked zero l = rw (number-drop 2 start m 2)
+      walked (suc j) l = rw (number-drop 2 start m 2, getD-drop start m 0 0, add-zero start) at (f .walked j (omega arith))
+
+      inside : (j : ℕ) → j < suc (length ps) → nth all j .start + nth all j .length ≤ length m
+      inside zero l = omega (arith, length-drop start m)
+      inside (suc j) l = f .inside j (omega arith)
+
+      measured : (j : ℕ) → j < suc (length ps) → nth all j .length ≡ numberAt 2 (drop (nth all j .start) m) 2
+      measured zero l = refl
+      measured (suc j) l = f .measured j (omega arith)
+
+      offers : (j : ℕ) → j < suc (length ps) → nth all j .kind ≡ 1 → offerCode exchange (bodyOf (drop (nth all j .start) m)) ≡ 0
+      offers zero l = offer
+      offers (suc j) l = f .offers j (omega arith)
+
+-- a reading that is refused found nothing
+nothing : {A : Type 0} (number : ℕ) (ps : List Payload) → refused number ≡ payloads ps → A
+nothing number ps e = never (cc)
+
+same : {ps qs : List Payload} → payloads ps ≡ payloads qs → ps ≡ qs
+same e = cc
+
+-- by which of two readings a test picked
+by-pick : {A : Type 0} (t : Bool) (x y r : Reading) → (if t then x else y) ≡ r → (t ≡ true → x ≡ r → A) → (t ≡ false → y ≡ r → A) → A
+by-pick true x y r e f g = f refl e
+by-pick false x y r e f g = g refl e
+
+-- what may follow a payload: the next, a rest that is refused, or the end
+by-end : {A : Type 0} (more wrong : Bool) (next : Reading) (number : ℕ) (qs : List Payload) →
+    (if more then next else if wrong then refused number else payloads []) ≡ payloads qs → (next ≡ payloads qs → A) → (qs ≡ [] → A) → A
+by-end true wrong next number qs e f g = f e
+by-end false true next number qs e f g = nothing number qs e
+by-end false false next number qs e f g = g (sym (same e))
+
+module _ (left exchange flags : ℕ) (m : List ℕ) (again : (another : Bool) (type start : ℕ) (qs : List Payload) → start ≤ length m → chain left exchange flags another type start (drop start m) ≡ payloads qs → Found exchange left m type start qs) (another : Bool) (type start : ℕ) (h : start ≤ length m) (fine : payloadCode exchange another type (drop start m) ≡ 0) where
+  fits : numberAt 2 (drop start m) 2 ≤ length (drop start m)
+  fits = payload-within exchange another type (drop start m) fine
+
+  next-found : (qs : List Payload) →
+      (if not (eqb (getD (drop start m) 0 0) 0)
+      then chain left exchange flags (another || eqb type 1) (getD (drop start m) 0 0) (start + numberAt 2 (drop start m) 2) (drop (numberAt 2 (drop start m) 2) (drop start m))
+      else if not (eqb (restCode flags (drop (numberAt 2 (drop start m) 2) (drop start m))) 0) then refused (restCode flags (drop (numberAt 2 (drop start m) 2) (drop start m)))
+      else payloads []) ≡ payloads qs → Found exchange left m (getD (drop start m) 0 0) (start + numberAt 2 (drop start m) 2) qs
+  next-found qs e =
+      by-end (not (eqb (getD (drop start m) 0 0) 0)) (not (eqb (restCode flags (drop (numberAt 2 (drop start m) 2) (drop start m))) 0))
+      (chain left exchange flags (another || eqb type 1) (getD (drop start m) 0 0) (start + numberAt 2 (drop start m) 2) (drop (numberAt 2 (drop start m) 2) (drop start m)))
+      (restCode flags (drop (numberAt 2 (drop start m) 2) (drop start m))) qs e
+      (λ v. again (another || eqb type 1) (getD (drop start m) 0 0) (start + numberAt 2 (drop start m) 2) qs (omega (arith, fits, length-drop start m)) (rw drop-drop at v))
+      (λ none. rw none (none-found exchange left m (getD (drop start m) 0 0) (start + numberAt 2 (drop start m) 2)))
+
+cons-some : (ps : List Payload) (p : Payload) (qs : List Payload) → ps ≡ p ∷ qs → 0 < length ps
+cons-some ps p qs e = rw e (omega arith)
+
+-- a chain that is not refused found its payloads, and one at least
+found : (left exchange flags : ℕ) (another : Bool) (type start : ℕ) (m : List ℕ) (ps : List Payload) → start ≤ length m →
+    chain left exchange flags another type start (drop start m) ≡ payloads ps → Found exchange left m type start ps × (0 < length ps)
+unfolding chain
+found zero exchange flags another type start m ps h e = never (cc)
+found (suc left) exchange flags another type start m ps h e =
+    by-pick _ _ _ _ e
+    (λ w v. nothing _ ps v)
+    (λ w v.
+    let code = payloadCode exchange another type (drop start m) in
+    let fine = eqb-true code 0 (not-false (eqb code 0) w) in
+    let (qs, eq, ep) = first-found _ _ ps v in
+    let after = next-found left exchange flags m (λ a t i rs g f. found left exchange flags a t i m rs g f .0) another type start h fine qs eq in
+    (rw ep (more-found exchange left m type start qs h (payload-within exchange another type (drop start m) fine) (payload-offer exchange another type (drop start m) fine) after), cons-some ps _ qs ep))
+
+-- a message whose header is not refused has one
+header-long : (m : List ℕ) → headerCode m ≡ 0 → 28 ≤ length m
+unfolding headerCode lengthWrong
+header-long m h =
+    let right = passed (lengthWrong m) 30 _ (λ z. omega arith) h in
+    let short = neither (ltb (length m) 28 || ltb 8192 (length m)) _ (right .0) in
+    ltb-false (length m) 28 (neither (ltb (length m) 28) (ltb 8192 (length m)) (short .0) .0)
+
+pub reading-found : (m : List ℕ) (ps : List Payload) → reading m ≡ payloads ps → Found (exchangeOf m) 32 m (firstPayload m) 28 ps × (0 < length ps)
+unfolding reading
+reading-found m ps e =
+    by-pick _ _ _ _ e
+    (λ w v. nothing _ ps v)
+    (λ w v.
+    let code = headerCode m in
+    found 32 (exchangeOf m) (flagsOf m) false (firstPayload m) 28 m ps (header-long m (eqb-true code 0 (not-false (eqb code 0) w))) v)
+
+-- ---- the message
+
+-- what a message that reads has been read as
+pub record ReadAs (m : List ℕ) (exchange count : ℕ) : Type 0 where
+  pub found : List Payload
+  pub is : reading m ≡ payloads found
+  pub same-exchange : exchangeOf m ≡ exchange
+  pub same-count : length found ≡ count
+
+read-of : (m : List ℕ) (exchange count : ℕ) (r : Reading) → reading m ≡ r → counted (exchangeOf m) 0 r ≡ Read exchange count → ReadAs m exchange count
+unfolding counted
+read-of m exchange count (refused number) e f = never (cc)
+read-of m exchange count (payloads ps) e f =
+    let same : 0 + length ps ≡ count = cc in
+    record { found = ps; is = e; same-exchange = cc; same-count = omega arith }
+
+pub read-as : (m : List ℕ) (exchange count : ℕ) → message m ≡ Read exchange count → ReadAs m exchange count
+unfolding message
+read-as m exchange count h = read-of m exchange count (reading m) refl h
+
+-- ---- a message of one SA payload
+
+sa-payload : (exchange : ℕ) (s : List ℕ) → (exchange ≡ 5 → ⊥) → 4 ≤ length s → getD s 1 0 ≡ 0 → numberAt 2 s 2 ≡ length s → offerCode exchange (drop 4 s) ≡ 0 → payloadCode exchange false 1 s ≡ 0
+unfolding payloadCode typeWrong lengthOut bodyCode bodyOf
+sa-payload exchange s other long reserved lies reads =
+    let within : ltb (length s) (length s) ≡ false = le-ltb (length s) (length s) (omega arith) in
+    rw (ne-eqb exchange 5 other, le-ltb (length s) 4 long, reserved, lies, le-ltb (length s) 4 long, within, take-length s) reads
+
+one-chain : (left exchange : ℕ) (s : List ℕ) → payloadCode exchange false 1 s ≡ 0 → getD s 0 0 ≡ 0 → numberAt 2 s 2 ≡ length s → (start : ℕ) → counted exchange 0 (chain (suc left) exchange 0 false 1 start s) ≡ Read exchange 1
+unfolding chain first counted restCode
+one-chain left exchange s fine last lies start = rw (fine, last, lies, drop-length s)
+
+-- a header, and behind it one SA payload whose body reads
+pub one-sa-reads : (m : List ℕ) → headerCode m ≡ 0 → firstPayload m ≡ 1 → flagsOf m ≡ 0 → (exchangeOf m ≡ 5 → ⊥) → 4 ≤ length (drop 28 m) → getD (drop 28 m) 0 0 ≡ 0 → getD (drop 28 m) 1 0 ≡ 0 → numberAt 2 (drop 28 m) 2 ≡ length (drop 28 m) → offerCode (exchangeOf m) (drop 4 (drop 28 m)) ≡ 0 → message m ≡ Read (exchangeOf m) 1
+unfolding message reading
+one-sa-reads m header first flags other long last reserved lies reads =
+    rw (header, first, flags) (one-chain 31 (exchangeOf m) (drop 28 m) (sa-payload (exchangeOf m) (drop 28 m) other long reserved lies reads) last lies 28)
