@@ -14,21 +14,21 @@ use Rattle.wire.proofs.Tests.{clash, both, neither, by-test, passed}
 use Rattle.attribute.specs.Attributes.{sentFixed, attributeType, attributeSize, outOfBounds, find, attribute, mustBeFixed, fixedWrong, isDuration, durationWrong, attributeCode, attributesCode, attributesLawful, countFrom, attributeCount}
 
 -- how often a type is wanted; each wanted type stands once in a list that is apart
-pub wantedTimes : List ℕ → ℕ → ℕ
+unfoldable pub wantedTimes : List ℕ → ℕ → ℕ
 wantedTimes [] t = 0
 wantedTimes (w ∷ ws) t = (if eqb t w then 1 else 0) + wantedTimes ws t
 
-pub apart : List ℕ → Bool
+unfoldable pub apart : List ℕ → Bool
 apart [] = true
 apart (w ∷ ws) = eqb (wantedTimes ws w) 0 && apart ws
 
 -- each is sent fixed, or is a duration
-pub allShort : ℕ → List ℕ → Bool
+unfoldable pub allShort : ℕ → List ℕ → Bool
 allShort exchange [] = true
 allShort exchange (w ∷ ws) = (mustBeFixed exchange w || isDuration exchange w) && allShort exchange ws
 
 -- each is there, among the first k attributes
-pub allThere : ℕ → List ℕ → List ℕ → Bool
+unfoldable pub allThere : ℕ → List ℕ → List ℕ → Bool
 allThere k [] s = true
 allThere k (w ∷ ws) s = leb 4 (length (find k w s)) && allThere k ws s
 

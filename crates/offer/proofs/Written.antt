@@ -128,9 +128,13 @@ module _ (exchange next high low number protocol : ℕ) (spi t : List ℕ) (w : 
       let first : take (numberAt 2 whole 2) whole ≡ proposed next high low number protocol spi t = rw size (take-append-seam (proposed next high low number protocol spi t) rest) in
       rw first at item
 
+pub alone-transforms : (exchange next high low number protocol : ℕ) (spi t : List ℕ) → Writes exchange next high low protocol spi t → transformBytes (proposed next high low number protocol spi t) ≡ t
+alone-transforms exchange next high low number protocol spi t w =
+    subst (λ (l : List ℕ). transformBytes l ≡ t) (append-nil (proposed next high low number protocol spi t)) (proposed-transforms exchange next high low number protocol spi t w [])
+
 -- ---- one proposal after the other
 
-order-first : (s : List ℕ) → orderWrong 0 none s ≡ false
+pub order-first : (s : List ℕ) → orderWrong 0 none s ≡ false
 unfolding orderWrong setBefore none has
 order-first s = rw (le-ltb (getD s 4 0) 0 (omega arith)) (by-test (eqb (getD s 4 0) 0) (λ e. rw e) (λ e. rw e))
 

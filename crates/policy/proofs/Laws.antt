@@ -132,7 +132,7 @@ module _ (exchange i : ℕ) (book p : List ℕ) where
   has-transform : leb 1 (lowest exchange i book p) ≡ true → HasTransform exchange i book p
   has-transform h = found-of (lowest-is exchange i book p) (leb-true 1 (lowest exchange i book p) h)
 
-  transform-low : HasTransform exchange i book p → leb 1 (lowest exchange i book p) ≡ true
+  pub transform-low : HasTransform exchange i book p → leb 1 (lowest exchange i book p) ≡ true
   transform-low g = le-leb 1 (lowest exchange i book p) (low-of (lowest-is exchange i book p) g)
 
 -- the protocols of a line are one or two

@@ -1,4 +1,5 @@
 pub mod Laws
+pub mod ReplyLaws
 mod ReplyWays
 mod BookWays
 mod SuitWays
