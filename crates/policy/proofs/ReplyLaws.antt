@@ -24,6 +24,7 @@ use Rattle.sets.specs.declared.ProposalNumber.{ProposalNumber}
 use Rattle.sets.specs.declared.TransformNumber.{TransformNumber}
 use Rattle.sets.proofs.Laws.{Same, same-end, same-on}
 use Rattle.sets.proofs.Places.{LawfulSet, set-lawful, set-by-number, OneSet, one-set, transform-lawful, transform-by-number}
+use Rattle.policy.specs.Reply.{ownSpi, fields, proposalOf, proposalReply, setReply, saOf, spiLow, spisLow}
 use Rattle.policy.specs.Suits.{present, valueIs, lifeWithin, nothingSurplus, mainValues, mainSuits, quickId, quickIntegrity, quickSuits, transformSuits}
 
 -- ---- a transform that suits is short
@@ -124,3 +125,223 @@ suits-short esp-of i book p k l h = quick-short (transform k p) _ _ _ _ l h
 -- "a main transform suits .. A quick one": of a proposal that reads, at most 56 bytes
 pub suiting-short : (exchange i : ℕ) (book p : List ℕ) (k : ℕ) → Item exchange p → k < transformCount p → transformSuits exchange i book p k ≡ true → length (transform k p) ≤ 56
 suiting-short exchange i book p k item l h = suits-short (known-of exchange (getD p 5 0) (item .known)) i book p k (transform-lawful exchange p item k l) h
+
+-- ---- a transform, repeated
+
+same-byte : (t : List ℕ) (j : ℕ) → 1 ≤ j → getD (0 ∷ drop 1 t) j 0 ≡ getD t j 0
+same-byte t zero h = absurd (omega arith)
+same-byte t (suc k) h = getD-drop 1 t k 0 ∙ ap (λ (x : ℕ). getD t x 0) (omega arith)
+
+-- "next fields and lengths set anew": of a short transform only the next field changes
+module _ (exchange : ℕ) (t : List ℕ) (l : LawfulTransform exchange t) (short : length t ≤ 56) where
+  size-high : getD t 2 0 ≡ 0
+  unfolding numberAt
+  size-high = omega (arith, l .lies)
+
+  size-low : getD t 3 0 ≡ length t
+  unfolding numberAt
+  size-low = omega (arith, l .lies)
+
+  three-bytes : drop 1 t ≡ 0 ∷ 0 ∷ length t ∷ drop 4 t
+  three-bytes =
+      let a = drop-cons t 1 0 (omega (arith, l .long)) in
+      let b = drop-cons t 2 0 (omega (arith, l .long)) in
+      let c = drop-cons t 3 0 (omega (arith, l .long)) in
+      rw (a, b, c, l .reserved, size-high, size-low)
+
+  repeated : headed 0 (drop 4 t) ≡ 0 ∷ drop 1 t
+  unfolding headed head bytesOf
+  repeated =
+      let size : 4 + length (drop 4 t) ≡ length t = omega (arith, length-drop 4 t, l .long) in
+      let high : length t / 256 % 256 ≡ 0 = omega arith in
+      let low : length t % 256 ≡ length t = omega arith in
+      rw (three-bytes, size, high, low)
+
+  repeated-length : length (0 ∷ drop 1 t) ≡ length t
+  repeated-length = omega (arith, length-drop 1 t, l .long)
+
+  repeated-lawful : LawfulTransform exchange (0 ∷ drop 1 t)
+  repeated-lawful =
+      let number : (i : ℕ) → 1 ≤ i → numberAt 2 (0 ∷ drop 1 t) i ≡ numberAt 2 t i = λ i h. number-agree 2 (0 ∷ drop 1 t) t i i (λ k b. same-byte t (i + k) (omega arith)) in
+      record {
+        long = omega (arith, repeated-length, l .long);
+        lies = number 2 (omega arith) ∙ l .lies ∙ sym repeated-length;
+        reserved = same-byte t 1 (omega arith) ∙ l .reserved;
+        also-reserved = number 6 (omega arith) ∙ l .also-reserved;
+        attributes = rw (drop-drop 7 1 t) (l .attributes);
+      }
+
+-- ---- a proposal of the reply
+
+-- an offered proposal p that reads, the transform t chosen in it, and the own SPI that it uses
+pub record Offered (exchange ah esp : ℕ) (p t : List ℕ) : Type 0 where
+  pub known : protocolWrong exchange (protocol p) ≡ false
+  pub lawful : LawfulTransform exchange t
+  pub short : length t ≤ 56
+  pub high : spiLow ah esp (protocol p) ≡ false
+
+-- a proposal q of the reply, beside them: "repeats numbers and transform bytes as offered, one transform each, next fields .. set anew, own SPIs"
+pub record Answers (ah esp : ℕ) (p t q : List ℕ) : Type 0 where
+  pub same-number : proposalNumber q ≡ proposalNumber p
+  pub same-protocol : protocol q ≡ protocol p
+  pub one-transform : transformCount q ≡ 1
+  pub same-transform : transform 0 q ≡ 0 ∷ drop 1 t
+  pub own-spi : spi q ≡ ownSpi ah esp (protocol p)
+
+spi-keyed : {exchange wanted : ℕ} → Known exchange wanted → (ah esp : ℕ) → ah < 4294967296 → esp < 4294967296 → spiLow ah esp wanted ≡ false → Keyed exchange (ownSpi ah esp wanted)
+unfolding ownSpi spiLow
+spi-keyed isakmp ah esp a e h = unkeyed
+spi-keyed ah-of ah esp a e h =
+    let high : 256 ≤ ah = ltb-false ah 256 (neither (ltb ah 256) false h .0) in
+    keyed {spi = bytesOf 4 ah} (length-bytesOf 4 ah) (omega (arith, number-bytesOf 4 ah (omega arith)))
+spi-keyed esp-of ah esp a e h =
+    let high : 256 ≤ esp = ltb-false esp 256 h in
+    keyed {spi = bytesOf 4 esp} (length-bytesOf 4 esp) (omega (arith, number-bytesOf 4 esp (omega arith)))
+
+key-few : {exchange : ℕ} {k : List ℕ} → Keyed exchange k → length k ≤ 4
+key-few unkeyed = omega arith
+key-few (keyed four high) = omega arith
+
+module _ (exchange ah esp : ℕ) (small-ah : ah < 4294967296) (small-esp : esp < 4294967296) (p t : List ℕ) (o : Offered exchange ah esp p t) where
+  abbrev own : List ℕ
+  own = ownSpi ah esp (protocol p)
+
+  abbrev size : ℕ
+  size = 8 + length (own ++ (0 ∷ drop 1 t))
+
+  abbrev as-proposed : ℕ → List ℕ
+  as-proposed next = proposed next (size / 256 % 256) (size % 256) (proposalNumber p .0) (protocol p) own (0 ∷ drop 1 t)
+
+  is-proposed : (next : ℕ) → proposalOf next (proposalNumber p .0) (protocol p) own t ≡ as-proposed next
+  unfolding proposalOf fields head bytesOf
+  is-proposed next = rw (repeated exchange t (o .lawful) (o .short))
+
+  key : Keyed exchange own
+  key = spi-keyed (known-of exchange (protocol p) (o .known)) ah esp small-ah small-esp (o .high)
+
+  proposed-length : length (as-proposed 0) ≤ 68
+  proposed-length = omega (arith, length-append own (0 ∷ drop 1 t), repeated-length exchange t (o .lawful) (o .short), o .short, key-few key)
+
+  module _ (next : ℕ) (follows : (next ≡ 0) ⊎ ((next ≡ 2) × (exchange ≡ 32))) where
+    writes : Writes exchange next (size / 256 % 256) (size % 256) (protocol p) own (0 ∷ drop 1 t)
+    writes =
+        let few : size < 256 = omega (arith, proposed-length) in
+        record {
+          lies = omega arith;
+          followed = follows;
+          known = o .known;
+          key = key;
+          lawful = repeated-lawful exchange t (o .lawful) (o .short);
+          last = refl;
+        }
+
+    answers : Answers ah esp p t (as-proposed next)
+    unfolding proposalNumber protocol transformCount spi transform skip firstItem
+    answers =
+        let own-transforms : transformBytes (as-proposed next) ≡ 0 ∷ drop 1 t =
+        alone-transforms exchange next (size / 256 % 256) (size % 256) (proposalNumber p .0) (protocol p) own (0 ∷ drop 1 t) writes in
+        let lies = repeated-lawful exchange t (o .lawful) (o .short) .lies in
+        record {
+          same-number = refl;
+          same-protocol = refl;
+          one-transform = refl;
+          same-transform = rw (own-transforms, lies) (take-length (0 ∷ drop 1 t));
+          own-spi = take-append-seam own (0 ∷ drop 1 t);
+        }
+
+    followed-lawful : (rest : List ℕ) → Item exchange (as-proposed next)
+    followed-lawful rest = proposed-lawful exchange next (size / 256 % 256) (size % 256) (proposalNumber p .0) (protocol p) own (0 ∷ drop 1 t) writes rest 0 none (order-first (as-proposed next ++ rest))
+
+  alone-reads : proposalsCode 16 exchange 0 none (as-proposed 0) ≡ 0
+  alone-reads = one-reads exchange (size / 256 % 256) (size % 256) (proposalNumber p .0) (protocol p) own (0 ∷ drop 1 t) (writes 0 (inl refl))
+
+-- ---- the SA payload of a reply
+
+-- DOI 1, situation 1, and then
+abbrev framed : List ℕ → List ℕ
+framed ps = 0 ∷ 0 ∷ 0 ∷ 1 ∷ 0 ∷ 0 ∷ 0 ∷ 1 ∷ ps
+
+sa-body : (next : ℕ) (ps : List ℕ) → drop 4 (saOf next ps) ≡ framed ps
+unfolding saOf headed head bytesOf
+sa-body next ps = refl
+
+framed-reads : (exchange : ℕ) (ps : List ℕ) → proposalsCode 16 exchange 0 none ps ≡ 0 → offerCode exchange (framed ps) ≡ 0
+unfolding numberAt
+framed-reads exchange ps h = offer-right exchange (framed ps) (omega arith) refl refl h
+
+-- the body of a reply, beside the set s that it answers, in whose proposal j the transform chosen j is taken
+pub record Repeats (exchange ah esp : ℕ) (s : List ℕ) (chosen : ℕ → List ℕ) (body : List ℕ) : Type 0 where
+  pub readable : offerCode exchange body ≡ 0
+  pub alone : setCount body ≡ 1
+  pub whole : set 0 body ≡ drop 8 body
+  pub as-many : proposalCount (set 0 body) ≡ proposalCount s
+  pub each : (j : ℕ) → j < proposalCount s → Answers ah esp (proposal j s) (chosen j) (proposal j (set 0 body))
+
+module _ (exchange ah esp : ℕ) (small-ah : ah < 4294967296) (small-esp : esp < 4294967296) (s : List ℕ) (chosen : ℕ → List ℕ) (first : Offered exchange ah esp (proposal 0 s) (chosen 0)) where
+  abbrev first-bytes : ℕ → List ℕ
+  first-bytes next = as-proposed exchange ah esp small-ah small-esp (proposal 0 s) (chosen 0) first next
+
+  module _ (one : proposalCount s ≡ 1) where
+    parts-one : OneSet (framed (first-bytes 0)) (first-bytes 0 ∷ [])
+    unfolding flatten
+    parts-one =
+        let item = followed-lawful exchange ah esp small-ah small-esp (proposal 0 s) (chosen 0) first 0 (inl refl) [] in
+        one-set (framed (first-bytes 0)) (first-bytes 0) [] item end same-end (omega arith) (sym (append-nil (first-bytes 0)))
+
+    one-repeats : Repeats exchange ah esp s chosen (framed (first-bytes 0))
+    unfolding flatten
+    one-repeats = record {
+      readable = framed-reads exchange (first-bytes 0) (alone-reads exchange ah esp small-ah small-esp (proposal 0 s) (chosen 0) first);
+      alone = parts-one .alone;
+      whole = parts-one .is ∙ append-nil (first-bytes 0);
+      as-many = parts-one .count ∙ sym one;
+      each = each;
+    }
+      where
+        each : (j : ℕ) → j < proposalCount s → Answers ah esp (proposal j s) (chosen j) (proposal j (set 0 (framed (first-bytes 0))))
+        each zero h = rw (parts-one .place 0 (omega arith)) (answers exchange ah esp small-ah small-esp (proposal 0 s) (chosen 0) first 0 (inl refl))
+        each (suc j) h = absurd (omega arith)
+
+  module _ (second : Offered exchange ah esp (proposal 1 s) (chosen 1)) (two : proposalCount s ≡ 2) (quick : exchange ≡ 32) (same : proposalNumber (proposal 1 s) ≡ proposalNumber (proposal 0 s)) (other : protocol (proposal 0 s) ≡ protocol (proposal 1 s) → ⊥) where
+    abbrev second-bytes : List ℕ
+    second-bytes = as-proposed exchange ah esp small-ah small-esp (proposal 1 s) (chosen 1) second 0
+
+    abbrev both-bytes : List ℕ
+    both-bytes = first-bytes 2 ++ second-bytes
+
+    same-value : proposalNumber (proposal 1 s) .0 ≡ proposalNumber (proposal 0 s) .0
+    same-value = ap (λ (n : ProposalNumber). n .0) same
+
+    two-lawful : Rising exchange (getD (first-bytes 2) 4 0) (second-bytes ∷ [])
+    two-lawful =
+        let item = followed-lawful exchange ah esp small-ah small-esp (proposal 1 s) (chosen 1) second 0 (inl refl) [] in
+        let order : getD (first-bytes 2) 4 0 ≤ getD second-bytes 4 0 = omega (arith, same-value) in
+        on item order end
+
+    two-bytes-read : proposalsCode 16 exchange 0 none both-bytes ≡ 0
+    two-bytes-read =
+        let w = writes exchange ah esp small-ah small-esp (proposal 0 s) (chosen 0) first 2 (inr (refl, quick)) in
+        let w2 = writes exchange ah esp small-ah small-esp (proposal 1 s) (chosen 1) second 0 (inl refl) in
+        rw same-value (two-read exchange _ _ (proposalNumber (proposal 0 s) .0) _ _ _ w _ _ _ _ _ w2 other)
+
+    parts-two : OneSet (framed both-bytes) (first-bytes 2 ∷ second-bytes ∷ [])
+    unfolding flatten
+    parts-two =
+        let item = followed-lawful exchange ah esp small-ah small-esp (proposal 0 s) (chosen 0) first 2 (inr (refl, quick)) [] in
+        let one-number : Same (getD (first-bytes 2) 4 0) (second-bytes ∷ []) = same-on {p = second-bytes} same-value same-end in
+        one-set (framed both-bytes) (first-bytes 2) (second-bytes ∷ []) item two-lawful one-number (omega arith) (ap (λ (l : List ℕ). first-bytes 2 ++ l) (sym (append-nil second-bytes)))
+
+    two-repeat : Repeats exchange ah esp s chosen (framed both-bytes)
+    unfolding flatten
+    two-repeat = record {
+      readable = framed-reads exchange both-bytes two-bytes-read;
+      alone = parts-two .alone;
+      whole = parts-two .is ∙ ap (λ (l : List ℕ). first-bytes 2 ++ l) (append-nil second-bytes);
+      as-many = parts-two .count ∙ sym two;
+      each = each;
+    }
+      where
+        each : (j : ℕ) → j < proposalCount s → Answers ah esp (proposal j s) (chosen j) (proposal j (set 0 (framed both-bytes)))
+        each zero h = rw (parts-two .place 0 (omega arith)) (answers exchange ah esp small-ah small-esp (proposal 0 s) (chosen 0) first 2 (inr (refl, quick)))
+        each (suc zero) h = rw (parts-two .place 1 (omega arith)) (answers exchange ah esp small-ah small-esp (proposal 1 s) (chosen 1) second 0 (inl refl))
+        each (suc (suc j)) h = absurd (omega arith)
