@@ -13,10 +13,11 @@ use borrow.Author.Tests.{eqb-true, eqb-false, eq-eqb, ne-eqb, ltb-false, leb-tru
 use Rattle.wire.specs.Wire.{numberAt, bytesOf, head, headed}
 use Rattle.wire.specs.Tests.{if_then_else_}
 use Rattle.wire.proofs.Tests.{never, clash, both, neither, by-test}
-use Rattle.wire.proofs.Laws.{number-agree, number-bytesOf, length-bytesOf}
+use Rattle.wire.proofs.Laws.{number-agree, number-bytesOf, length-bytesOf, length-headed, headed-lies}
 use Rattle.attribute.specs.Attributes.{attribute, mustBeFixed, isDuration, attributesLawful, attributeCount}
 use Rattle.attribute.proofs.Laws.{wantedTimes, apart, allShort, allThere, wanted-length}
-use Rattle.offer.specs.Proposals.{protocolWrong, transformBytes, proposalsCode, none, offerCode}
+use Rattle.offer.specs.Proposals.{protocolWrong, transformBytes, proposalsCode, offerCode}
+use Rattle.offer.specs.Proposals as proposals
 use Rattle.offer.proofs.Laws.{Item, Rising, end, on, LawfulTransform}
 use Rattle.offer.proofs.Written.{proposed, Keyed, unkeyed, keyed, Writes, alone-transforms, order-first, proposed-lawful, last-lawful, one-reads, two-read, offer-right}
 use Rattle.sets.specs.Parts.{skip, firstItem, afterItem, set, setCount, setNumbered, proposal, proposalCount, proposalNumber, protocol, spi, transformCount, transform, transformNumbered, transformNumber, transformId, attributesOf}
@@ -25,7 +26,12 @@ use Rattle.sets.specs.declared.TransformNumber.{TransformNumber}
 use Rattle.sets.proofs.Laws.{Same, same-end, same-on}
 use Rattle.sets.proofs.Places.{LawfulSet, set-lawful, set-by-number, OneSet, one-set, transform-lawful, transform-by-number}
 use Rattle.policy.specs.Reply.{ownSpi, fields, proposalOf, proposalReply, setReply, saOf, spiLow, spisLow}
-use Rattle.policy.specs.Suits.{present, valueIs, lifeWithin, nothingSurplus, mainValues, mainSuits, quickId, quickIntegrity, quickSuits, transformSuits}
+use Rattle.policy.specs.Book.{quickProtocols}
+use Rattle.policy.specs.declared.Transforms.{Transforms}
+use Rattle.policy.specs.declared.Transforms.the-variants.{One, Two}
+use Rattle.policy.specs.Choice.{numberOf, transformsOf}
+use Rattle.policy.proofs.Laws.{First, none, here, lowest-is, HasTransform, transform-low, Suits}
+use Rattle.policy.specs.Suits.{present, valueIs, lifeWithin, nothingSurplus, mainValues, mainSuits, quickId, quickIntegrity, quickSuits, transformSuits, lowest, protocolsAlone, protocolsBoth, protocolsSuit}
 
 -- ---- a transform that suits is short
 
@@ -250,9 +256,9 @@ module _ (exchange ah esp : ℕ) (small-ah : ah < 4294967296) (small-esp : esp <
         }
 
     followed-lawful : (rest : List ℕ) → Item exchange (as-proposed next)
-    followed-lawful rest = proposed-lawful exchange next (size / 256 % 256) (size % 256) (proposalNumber p .0) (protocol p) own (0 ∷ drop 1 t) writes rest 0 none (order-first (as-proposed next ++ rest))
+    followed-lawful rest = proposed-lawful exchange next (size / 256 % 256) (size % 256) (proposalNumber p .0) (protocol p) own (0 ∷ drop 1 t) writes rest 0 proposals.none (order-first (as-proposed next ++ rest))
 
-  alone-reads : proposalsCode 16 exchange 0 none (as-proposed 0) ≡ 0
+  alone-reads : proposalsCode 16 exchange 0 proposals.none (as-proposed 0) ≡ 0
   alone-reads = one-reads exchange (size / 256 % 256) (size % 256) (proposalNumber p .0) (protocol p) own (0 ∷ drop 1 t) (writes 0 (inl refl))
 
 -- ---- the SA payload of a reply
@@ -265,7 +271,7 @@ sa-body : (next : ℕ) (ps : List ℕ) → drop 4 (saOf next ps) ≡ framed ps
 unfolding saOf headed head bytesOf
 sa-body next ps = refl
 
-framed-reads : (exchange : ℕ) (ps : List ℕ) → proposalsCode 16 exchange 0 none ps ≡ 0 → offerCode exchange (framed ps) ≡ 0
+framed-reads : (exchange : ℕ) (ps : List ℕ) → proposalsCode 16 exchange 0 proposals.none ps ≡ 0 → offerCode exchange (framed ps) ≡ 0
 unfolding numberAt
 framed-reads exchange ps h = offer-right exchange (framed ps) (omega arith) refl refl h
 
@@ -318,7 +324,7 @@ module _ (exchange ah esp : ℕ) (small-ah : ah < 4294967296) (small-esp : esp <
         let order : getD (first-bytes 2) 4 0 ≤ getD second-bytes 4 0 = omega (arith, same-value) in
         on item order end
 
-    two-bytes-read : proposalsCode 16 exchange 0 none both-bytes ≡ 0
+    two-bytes-read : proposalsCode 16 exchange 0 proposals.none both-bytes ≡ 0
     two-bytes-read =
         let w = writes exchange ah esp small-ah small-esp (proposal 0 s) (chosen 0) first 2 (inr (refl, quick)) in
         let w2 = writes exchange ah esp small-ah small-esp (proposal 1 s) (chosen 1) second 0 (inl refl) in
@@ -345,3 +351,155 @@ module _ (exchange ah esp : ℕ) (small-ah : ah < 4294967296) (small-esp : esp <
         each zero h = rw (parts-two .place 0 (omega arith)) (answers exchange ah esp small-ah small-esp (proposal 0 s) (chosen 0) first 2 (inr (refl, quick)))
         each (suc zero) h = rw (parts-two .place 1 (omega arith)) (answers exchange ah esp small-ah small-esp (proposal 1 s) (chosen 1) second 0 (inl refl))
         each (suc (suc j)) h = absurd (omega arith)
+
+-- ---- what the choice takes
+
+-- "lowest transform in each proposal"
+abbrev pub chosenIn : ℕ → ℕ → List ℕ → List ℕ → List ℕ
+chosenIn exchange i book p = transform (lowest exchange i book p - 1) p
+
+first-taken : {test : ℕ → Bool} {n r : ℕ} → First test n 0 r → 1 ≤ r → (r - 1 < n) × (test (r - 1) ≡ true)
+first-taken (none f) h = absurd (omega arith)
+first-taken {test} (here j a b t f) h = (omega arith, ap test (omega arith) ∙ t)
+
+module _ (exchange i : ℕ) (book p : List ℕ) (item : Item exchange p) (some : HasTransform exchange i book p) where
+  taken : (lowest exchange i book p - 1 < transformCount p) × (transformSuits exchange i book p (lowest exchange i book p - 1) ≡ true)
+  taken = first-taken (lowest-is exchange i book p) (leb-true 1 (lowest exchange i book p) (transform-low exchange i book p some))
+
+  pub taken-by-number : transformNumbered (numberOf (lowest exchange i book p) p) p ≡ chosenIn exchange i book p
+  unfolding numberOf
+  taken-by-number = transform-by-number exchange p item (lowest exchange i book p - 1) (taken .0)
+
+  offered : (ah esp : ℕ) → spiLow ah esp (protocol p) ≡ false → Offered exchange ah esp p (chosenIn exchange i book p)
+  unfolding protocol
+  offered ah esp high = record {
+    known = item .known;
+    lawful = transform-lawful exchange p item (lowest exchange i book p - 1) (taken .0);
+    short = suiting-short exchange i book p (lowest exchange i book p - 1) item (taken .0) (taken .1);
+    high = high;
+  }
+
+-- "its protocols are exactly the line's": one proposal, or one for AH and one for ESP
+record Pair (s : List ℕ) : Type 0 where
+  two : proposalCount s ≡ 2
+  other : protocol (proposal 0 s) ≡ protocol (proposal 1 s) → ⊥
+  quick : protocol (proposal 0 s) ≡ 1 → ⊥
+
+module _ (s : List ℕ) where
+  pair : protocolsBoth s ≡ true → Pair s
+  unfolding protocolsBoth
+  pair h =
+      let a : ℕ = protocol (proposal 0 s) in
+      let b : ℕ = protocol (proposal 1 s) in
+      let outer = both (eqb (proposalCount s) 2) (eqb a 2 && eqb b 3 || eqb a 3 && eqb b 2) h in
+      by-test (eqb a 2 && eqb b 3)
+      (λ e. let two = both (eqb a 2) (eqb b 3) e in
+      record { two = eqb-true _ _ (outer .0); other = λ x. omega (arith, eqb-true a 2 (two .0), eqb-true b 3 (two .1)); quick = λ x. omega (arith, eqb-true a 2 (two .0)) })
+      (λ e. let two = both (eqb a 3) (eqb b 2) (rw e at outer .1) in
+      record { two = eqb-true _ _ (outer .0); other = λ x. omega (arith, eqb-true a 3 (two .0), eqb-true b 2 (two .1)); quick = λ x. omega (arith, eqb-true a 3 (two .0)) })
+
+  single : (wanted : ℕ) → protocolsAlone wanted s ≡ true → proposalCount s ≡ 1
+  unfolding protocolsAlone
+  single wanted h = eqb-true (proposalCount s) 1 (both (eqb (proposalCount s) 1) _ h .0)
+
+  one-or-pair : (a b : Bool) → (if a then protocolsAlone 1 s else if b then protocolsAlone 3 s else protocolsBoth s) ≡ true → (proposalCount s ≡ 1) ⊎ Pair s
+  one-or-pair true b h = inl (single 1 h)
+  one-or-pair false true h = inl (single 3 h)
+  one-or-pair false false h = inr (pair h)
+
+  shape : (exchange i : ℕ) (book : List ℕ) → protocolsSuit exchange i book s ≡ true → (proposalCount s ≡ 1) ⊎ Pair s
+  unfolding protocolsSuit
+  shape exchange i book h = one-or-pair (eqb exchange 2) (eqb (quickProtocols i book) 1) h
+
+known-quick : {exchange wanted : ℕ} → Known exchange wanted → (wanted ≡ 1 → ⊥) → exchange ≡ 32
+known-quick isakmp h = absurd (h refl)
+known-quick ah-of h = refl
+known-quick esp-of h = refl
+
+-- ---- the reply to a set that suits a line
+
+record Replies (exchange i ah esp : ℕ) (book s : List ℕ) : Type 0 where
+  bytes : List ℕ
+  is : setReply ah esp (transformsOf exchange i book s) s ≡ bytes
+  repeats : Repeats exchange ah esp s (λ j. chosenIn exchange i book (proposal j s)) (framed bytes)
+  few : length bytes ≤ 136
+
+module _ (exchange i ah esp : ℕ) (book s : List ℕ) (lawful : LawfulSet exchange s) (suits : Suits exchange i book s) (small-ah : ah < 4294967296) (small-esp : esp < 4294967296) where
+  abbrev chosen-at : ℕ → List ℕ
+  chosen-at j = chosenIn exchange i book (proposal j s)
+
+  -- proposal j, where the own SPI that it uses is not low
+  module _ (j : ℕ) (l : j < proposalCount s) (high : spiLow ah esp (protocol (proposal j s)) ≡ false) where
+    offered-at : Offered exchange ah esp (proposal j s) (chosen-at j)
+    offered-at = offered exchange i book (proposal j s) (lawful .lawful j l) (suits .each j l) ah esp high
+
+    abbrev bytes-at : ℕ → List ℕ
+    bytes-at next = as-proposed exchange ah esp small-ah small-esp (proposal j s) (chosen-at j) offered-at next
+
+    reply-is : (next : ℕ) → proposalReply ah esp next (numberOf (lowest exchange i book (proposal j s)) (proposal j s)) (proposal j s) ≡ bytes-at next
+    unfolding proposalReply
+    reply-is next =
+        rw (taken-by-number exchange i book (proposal j s) (lawful .lawful j l) (suits .each j l)) (is-proposed exchange ah esp small-ah small-esp (proposal j s) (chosen-at j) offered-at next)
+
+    bytes-few : (next : ℕ) → length (bytes-at next) ≤ 68
+    bytes-few next = proposed-length exchange ah esp small-ah small-esp (proposal j s) (chosen-at j) offered-at
+
+  low-first : (t : Transforms) → spisLow ah esp t s ≡ false → spiLow ah esp (protocol (proposal 0 s)) ≡ false
+  unfolding spisLow
+  low-first (One t) h = h
+  low-first (Two t u) h = neither _ (spiLow ah esp (protocol (proposal 1 s))) h .0
+
+  low-second : (t u : TransformNumber) → spisLow ah esp (Two t u) s ≡ false → spiLow ah esp (protocol (proposal 1 s)) ≡ false
+  unfolding spisLow
+  low-second t u h = neither (spiLow ah esp (protocol (proposal 0 s))) _ h .1
+
+  replies-one : proposalCount s ≡ 1 → spisLow ah esp (transformsOf exchange i book s) s ≡ false → Replies exchange i ah esp book s
+  unfolding transformsOf setReply
+  replies-one one low =
+      let high = low-first (transformsOf exchange i book s) low in
+      let first = offered-at 0 (lawful .some) high in
+      record {
+        bytes = bytes-at 0 (lawful .some) high 0;
+        is = rw (eq-eqb (proposalCount s) 1 one) (reply-is 0 (lawful .some) high 0);
+        repeats = one-repeats exchange ah esp small-ah small-esp s chosen-at first one;
+        few = omega (arith, bytes-few 0 (lawful .some) high 0);
+      }
+
+  replies-two : Pair s → spisLow ah esp (transformsOf exchange i book s) s ≡ false → Replies exchange i ah esp book s
+  unfolding transformsOf setReply
+  replies-two p low =
+      let second : 1 < proposalCount s = omega (arith, p .two) in
+      let several : eqb (proposalCount s) 1 ≡ false = ne-eqb (proposalCount s) 1 (λ e. omega arith) in
+      let high = low-first (transformsOf exchange i book s) low in
+      let high2 = low-second _ _ (rw several at low) in
+      let a = offered-at 0 (lawful .some) high in
+      let b = offered-at 1 second high2 in
+      let quick : exchange ≡ 32 = known-quick (known-of exchange (protocol (proposal 0 s)) (a .known)) (p .quick) in
+      record {
+        bytes = bytes-at 0 (lawful .some) high 2 ++ bytes-at 1 second high2 0;
+        is = rw (several, reply-is 0 (lawful .some) high 2, reply-is 1 second high2 0);
+        repeats = two-repeat exchange ah esp small-ah small-esp s chosen-at a b (p .two) quick (lawful .one-number 1 second) (p .other);
+        few = omega (arith, length-append (bytes-at 0 (lawful .some) high 2) (bytes-at 1 second high2 0), bytes-few 0 (lawful .some) high 2, bytes-few 1 second high2 0);
+      }
+
+  module _ (low : spisLow ah esp (transformsOf exchange i book s) s ≡ false) where
+    replies : Replies exchange i ah esp book s
+    replies = ⊎-elim (λ one. replies-one one low) (λ p. replies-two p low) (shape s exchange i book (suits .protocols))
+
+    -- the body of the reply's SA payload, whatever payload comes next
+    pub reply-repeats : (next : ℕ) → Repeats exchange ah esp s chosen-at (drop 4 (saOf next (setReply ah esp (transformsOf exchange i book s) s)))
+    reply-repeats next = rw (sa-body next (setReply ah esp (transformsOf exchange i book s) s), replies .is) (replies .repeats)
+
+    pub reply-short : (next : ℕ) → length (saOf next (setReply ah esp (transformsOf exchange i book s) s)) ≤ 148
+    unfolding saOf
+    reply-short next =
+        let ps : List ℕ = setReply ah esp (transformsOf exchange i book s) s in
+        omega (
+          arith,
+          length-headed next (bytesOf 4 1 ++ (bytesOf 4 1 ++ ps)),
+          length-append (bytesOf 4 1) (bytesOf 4 1 ++ ps),
+          length-append (bytesOf 4 1) ps,
+          length-bytesOf 4 1,
+          ap length (replies .is),
+          replies .few,
+        )
