@@ -1,4 +1,6 @@
 pub mod Laws
+pub mod SuitLaws
+pub mod ChoiceLaws
 pub mod ReplyLaws
 mod ReplyWays
 mod BookWays
