@@ -177,6 +177,32 @@ framed-reads : (exchange : ℕ) (ps : List ℕ) → proposalsCode 16 exchange 0 
 unfolding numberAt
 framed-reads exchange ps h = offer-right exchange (framed ps) (omega arith) refl refl h
 
+-- an SA payload is as long as it says
+module _ (next : ℕ) (ps : List ℕ) where
+  sa-length : length (saOf next ps) ≡ 12 + length ps
+  unfolding saOf
+  sa-length =
+      omega (
+        arith,
+        length-headed next (bytesOf 4 1 ++ (bytesOf 4 1 ++ ps)),
+        length-append (bytesOf 4 1) (bytesOf 4 1 ++ ps),
+        length-append (bytesOf 4 1) ps,
+        length-bytesOf 4 1,
+      )
+
+  pub sa-lies : length (saOf next ps) < 65536 → numberAt 2 (saOf next ps) 2 ≡ length (saOf next ps)
+  unfolding saOf
+  sa-lies h =
+      let rest : List ℕ = bytesOf 4 1 ++ (bytesOf 4 1 ++ ps) in
+      headed-lies next rest (omega (arith, length-headed next rest)) ∙ sym (length-headed next rest)
+
+  pub sa-long : 12 ≤ length (saOf next ps)
+  sa-long = omega (arith, sa-length)
+
+  pub sa-begins : (getD (saOf next ps) 0 0 ≡ next) × (getD (saOf next ps) 1 0 ≡ 0)
+  unfolding saOf headed head
+  sa-begins = (refl, refl)
+
 -- the body of a reply, beside the set s that it answers, in whose proposal j the transform chosen j is taken
 pub record Repeats (exchange ah esp : ℕ) (s : List ℕ) (chosen : ℕ → List ℕ) (body : List ℕ) : Type 0 where
   pub readable : offerCode exchange body ≡ 0
@@ -343,43 +369,11 @@ module _ (exchange i ah esp : ℕ) (book s : List ℕ) (lawful : LawfulSet excha
     reply-repeats next = rw (sa-body next (setReply ah esp (transformsOf exchange i book s) s), replies .is) (replies .repeats)
 
     pub reply-short : (next : ℕ) → length (saOf next (setReply ah esp (transformsOf exchange i book s) s)) ≤ 148
-    unfolding saOf
     reply-short next =
         let ps : List ℕ = setReply ah esp (transformsOf exchange i book s) s in
-        omega (
-          arith,
-          length-headed next (bytesOf 4 1 ++ (bytesOf 4 1 ++ ps)),
-          length-append (bytesOf 4 1) (bytesOf 4 1 ++ ps),
-          length-append (bytesOf 4 1) ps,
-          length-bytesOf 4 1,
-          ap length (replies .is),
-          replies .few,
-        )
+        omega (arith, sa-length next ps, ap length (replies .is), replies .few)
 
 -- ---- the reply to a choice
-
--- an SA payload is as long as it says
-module _ (next : ℕ) (ps : List ℕ) where
-  sa-length : length (saOf next ps) ≡ 12 + length ps
-  unfolding saOf
-  sa-length =
-      omega (
-        arith,
-        length-headed next (bytesOf 4 1 ++ (bytesOf 4 1 ++ ps)),
-        length-append (bytesOf 4 1) (bytesOf 4 1 ++ ps),
-        length-append (bytesOf 4 1) ps,
-        length-bytesOf 4 1,
-      )
-
-  pub sa-lies : length (saOf next ps) < 65536 → numberAt 2 (saOf next ps) 2 ≡ length (saOf next ps)
-  unfolding saOf
-  sa-lies h =
-      let rest : List ℕ = bytesOf 4 1 ++ (bytesOf 4 1 ++ ps) in
-      headed-lies next rest (omega (arith, length-headed next rest)) ∙ sym (length-headed next rest)
-
-  pub sa-begins : (getD (saOf next ps) 0 0 ≡ next) × (getD (saOf next ps) 1 0 ≡ 0)
-  unfolding saOf headed head
-  sa-begins = (refl, refl)
 
 module _ (exchange count : ℕ) (book m : List ℕ) (number : ProposalNumber) (line : LineNumber) (transforms : Transforms) (c : Chose exchange count book m number line transforms) (ah esp : ℕ) (small-ah : ah < 4294967296) (small-esp : esp < 4294967296) (low : spisLow ah esp transforms (setNumbered number (saFrom 32 0 m)) ≡ false) where
   abbrev answered-set : List ℕ

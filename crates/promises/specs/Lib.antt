@@ -5,6 +5,7 @@ pub mod Port4500
 pub mod Payloads
 pub mod Sets
 pub mod Choice
+pub mod Reply
 pub mod History
 mod SequenceRecord
 mod SequenceTable

@@ -1,0 +1,192 @@
+-- Issue 4, "the reply reads back": put into a message it is readable, and holds one set with the chosen number, the offered protocols in the
+-- offered order, one transform each, byte for byte the chosen one, and the own SPIs. Shut out: a reply that repeats the offer's SPI, one that
+-- takes another set or transform or leaves a proposal of the set out, and one fixed reply, since two offers ask for two.
+use Prim.Native.Nat.{ℕ, zero, suc, _+_, _-_, _≤_, _<_}
+use mathlib.Core.Path.{_≡_, refl, sym, ap, _∙_}
+use mathlib.Core.Logic.{⊎-elim}
+use mathlib.Core.List.{List, [], _∷_, _++_}
+use mathlib.Core.Bool.{Bool, true, false}
+use native.Mathlib.Omega.{arith}
+use lib.ListN.{length, getD, take, drop, List·getD-append}
+use lib.Seq.{drop-at}
+use lib.Dec.{eqb}
+use borrow.Author.Tests.{eq-eqb, ne-eqb}
+use Rattle.wire.specs.Wire.{numberAt, paste}
+use Rattle.wire.specs.Tests.{if_then_else_}
+use Rattle.wire.proofs.Tests.{by-test}
+use Rattle.wire.proofs.Laws.{paste-inside, drop-paste}
+use Rattle.message.specs.Header.{exchangeOf, flagsOf, firstPayload, headerCode}
+use Rattle.message.specs.Message.{message}
+use Rattle.message.specs.declared.Message.the-variants.{Read}
+use Rattle.message.proofs.Laws.{one-sa-reads}
+use Rattle.offer.specs.Proposals.{offerCode}
+use Rattle.sets.specs.Parts.{set, setCount, setNumbered, proposal, proposalCount, proposalNumber, protocol, spi, transform, transformCount, transformNumber}
+use Rattle.sets.specs.declared.ProposalNumber.{ProposalNumber}
+use Rattle.sets.specs.declared.TransformNumber.{TransformNumber}
+use Rattle.policy.specs.Suits.{lowest, protocolsSuit}
+use Rattle.policy.specs.Choice.{numberOf, transformsOf, saFrom, choice}
+use Rattle.policy.specs.Reply.{ownSpi, saOf, setReply, spisLow, replied}
+use Rattle.policy.specs.declared.LineNumber.{LineNumber}
+use Rattle.policy.specs.declared.Transforms.{Transforms}
+use Rattle.policy.specs.declared.Transforms.the-variants.{One, Two}
+use Rattle.policy.specs.declared.Choice.the-variants.{Chosen}
+use Rattle.policy.specs.declared.Reply.{Reply}
+use Rattle.policy.specs.declared.Reply.the-variants.{Written}
+use Rattle.policy.proofs.SuitLaws.{Known, isakmp, ah-of, esp-of, known-of, chosenIn, taken, Pair, shape}
+use Rattle.policy.proofs.ChoiceLaws.{Chose, chose-says, sa-in-front}
+use Rattle.policy.proofs.ReplyLaws.{Answers, Repeats, choice-repeats, choice-short, choice-written, sa-lies, sa-long, sa-begins}
+
+-- ---- what is promised
+
+-- the number of the transform chosen in proposal j
+unfoldable pub chosenNumber : Transforms → ℕ → TransformNumber
+chosenNumber (One t) j = t
+chosenNumber (Two t u) zero = t
+chosenNumber (Two t u) (suc j) = u
+
+-- q repeats the offered proposal p, with the transform of number t, and names an own SPI. Of the transform's bytes only the first, "next", is
+-- set anew: to 0, since it is the last.
+pub record Repeated (ah esp : ℕ) (number : ProposalNumber) (p : List ℕ) (t : TransformNumber) (q : List ℕ) : Type 0 where
+  pub chosen-number : proposalNumber q ≡ number
+  pub same-protocol : protocol q ≡ protocol p
+  pub one-transform : transformCount q ≡ 1
+  pub place : ℕ
+  pub offered : place < transformCount p
+  pub its-number : transformNumber (transform place p) ≡ t
+  pub byte-for-byte : transform 0 q ≡ 0 ∷ drop 1 (transform place p)
+  pub own-spi : spi q ≡ ownSpi ah esp (protocol p)
+
+-- m reads, its one payload is an SA payload of one set, and that repeats the offered set s
+pub record ReadsBack (exchange ah esp : ℕ) (number : ProposalNumber) (transforms : Transforms) (s m : List ℕ) : Type 0 where
+  pub readable : message m ≡ Read exchange 1
+  pub one-set : setCount (saFrom 1 0 m) ≡ 1
+  pub as-many : proposalCount (set 0 (saFrom 1 0 m)) ≡ proposalCount s
+  pub each : (j : ℕ) → j < proposalCount s → Repeated ah esp number (proposal j s) (chosenNumber transforms j) (proposal j (set 0 (saFrom 1 0 m)))
+
+-- the header of a message of the offer's exchange with this payload, an SA payload, alone and not ciphered
+pub record Around (exchange : ℕ) (payload h : List ℕ) : Type 0 where
+  pub header : length h ≡ 28
+  pub lawful : headerCode (h ++ payload) ≡ 0
+  pub an-sa : firstPayload h ≡ 1
+  pub same-exchange : exchangeOf h ≡ exchange
+  pub plain : flagsOf h ≡ 0
+
+-- what the reply to a choice is, in the buffer b after it, and that it reads back
+pub record Replied (exchange count ah esp : ℕ) (m : List ℕ) (number : ProposalNumber) (transforms : Transforms) (buffer : List ℕ) (r : Reply × List ℕ) : Type 0 where
+  pub payload : List ℕ
+  pub fits : length payload ≤ 2048
+  pub answered : r .0 ≡ Written (length payload)
+  pub in-front : take (length payload) (r .1) ≡ payload
+  pub else-kept : drop (length payload) (r .1) ≡ drop (length payload) buffer
+  pub k : ℕ
+  pub offered : k < setCount (saFrom count 0 m)
+  pub chosen-set : proposalNumber (proposal 0 (set k (saFrom count 0 m))) ≡ number
+  pub reads-back : (h : List ℕ) → Around exchange payload h → ReadsBack exchange ah esp number transforms (set k (saFrom count 0 m)) (h ++ payload)
+
+-- ---- proofs
+
+not-five : {exchange wanted : ℕ} → Known exchange wanted → exchange ≡ 5 → ⊥
+not-five isakmp e = omega arith
+not-five ah-of e = omega arith
+not-five esp-of e = omega arith
+
+-- the numbers that the choice names are those of the transforms that it takes
+module _ (exchange i : ℕ) (book s : List ℕ) where
+  abbrev number-in : ℕ → TransformNumber
+  number-in j = numberOf (lowest exchange i book (proposal j s)) (proposal j s)
+
+  number-at : (j : ℕ) → j < 2 → j < proposalCount s → chosenNumber (transformsOf exchange i book s) j ≡ number-in j
+  unfolding transformsOf chosenNumber
+  number-at zero h l = by-test (eqb (proposalCount s) 1) (λ e. rw e) (λ e. rw e)
+  number-at (suc zero) h l = rw (ne-eqb (proposalCount s) 1 (λ e. omega arith))
+  number-at (suc (suc j)) h l = absurd (omega arith)
+
+  at-most-two : protocolsSuit exchange i book s ≡ true → proposalCount s ≤ 2
+  at-most-two h = ⊎-elim (λ e. omega arith) (λ p. omega (arith, p .two)) (shape s exchange i book h)
+
+-- the message around a payload, whose body reads
+module _ (exchange : ℕ) (payload h : List ℕ) (a : Around exchange payload h) where
+  behind : drop 28 (h ++ payload) ≡ payload
+  behind = drop-at h payload 28 (a .header)
+
+  byte : (k : ℕ) → k < 28 → getD (h ++ payload) k 0 ≡ getD h k 0
+  byte k l = List·getD-append h payload 0 k (omega (arith, a .header))
+
+  module _ (lies : numberAt 2 payload 2 ≡ length payload) where
+    sa-is : saFrom 1 0 (h ++ payload) ≡ drop 4 payload
+    sa-is = sa-in-front (h ++ payload) (byte 16 (omega arith) ∙ a .an-sa) (rw behind lies) ∙ ap (drop 4) behind
+
+    message-reads : (exchange ≡ 5 → ⊥) → 4 ≤ length payload → getD payload 0 0 ≡ 0 → getD payload 1 0 ≡ 0 → offerCode exchange (drop 4 payload) ≡ 0 → message (h ++ payload) ≡ Read exchange 1
+    message-reads other long last reserved reads =
+        let same : exchangeOf (h ++ payload) ≡ exchange = byte 18 (omega arith) ∙ a .same-exchange in
+        let body : offerCode (exchangeOf (h ++ payload)) (drop 4 (drop 28 (h ++ payload))) ≡ 0 = ap (λ (x : ℕ). offerCode x (drop 4 (drop 28 (h ++ payload)))) same ∙ (rw behind reads) in
+        one-sa-reads (h ++ payload) (a .lawful) (byte 16 (omega arith) ∙ a .an-sa) (byte 19 (omega arith) ∙ a .plain) (λ e. other (sym same ∙ e)) (rw behind long) (rw behind last) (rw behind reserved) (rw behind lies) body
+        ∙ ap (λ (x : ℕ). Read x 1) same
+
+module _ (exchange count : ℕ) (book m : List ℕ) (number : ProposalNumber) (line : LineNumber) (transforms : Transforms) (c : Chose exchange count book m number line transforms) (ah esp : ℕ) (small-ah : ah < 4294967296) (small-esp : esp < 4294967296) (low : spisLow ah esp transforms (setNumbered number (saFrom 32 0 m)) ≡ false) where
+  abbrev s : List ℕ
+  s = set (c .k) (saFrom count 0 m)
+
+  abbrev payload : List ℕ
+  payload = saOf 0 (setReply ah esp transforms (setNumbered number (saFrom 32 0 m)))
+
+  repeats : Repeats exchange ah esp s (λ j. chosenIn exchange (c .i) book (proposal j s)) (drop 4 payload)
+  repeats = choice-repeats exchange count book m number line transforms c ah esp small-ah small-esp low 0
+
+  short : length payload ≤ 148
+  short = choice-short exchange count book m number line transforms c ah esp small-ah small-esp low 0
+
+  lies : numberAt 2 payload 2 ≡ length payload
+  lies = sa-lies 0 (setReply ah esp transforms (setNumbered number (saFrom 32 0 m))) (omega (arith, short))
+
+  repeated : (j : ℕ) → j < proposalCount s → Repeated ah esp number (proposal j s) (chosenNumber transforms j) (proposal j (set 0 (drop 4 payload)))
+  unfolding numberOf
+  repeated j h =
+      let a = repeats .each j h in
+      let t = taken exchange (c .i) book (proposal j s) (c .lawful .lawful j h) (c .suits .each j h) in
+      let few : j < 2 = omega (arith, at-most-two exchange (c .i) book s (c .suits .protocols)) in
+      record {
+        chosen-number = a .same-number ∙ c .lawful .one-number j h ∙ c .its-number;
+        same-protocol = a .same-protocol;
+        one-transform = a .one-transform;
+        place = lowest exchange (c .i) book (proposal j s) - 1;
+        offered = t .0;
+        its-number = sym (number-at exchange (c .i) book s j few h) ∙ ap (λ (x : Transforms). chosenNumber x j) (sym (c .taken));
+        byte-for-byte = a .same-transform;
+        own-spi = a .own-spi;
+      }
+
+  reads-back : (h : List ℕ) → Around exchange payload h → ReadsBack exchange ah esp number transforms s (h ++ payload)
+  unfolding protocol
+  reads-back h a =
+      let sa = sa-is exchange payload h a lies in
+      let known = c .lawful .lawful 0 (c .lawful .some) .known in
+      let begins = sa-begins 0 (setReply ah esp transforms (setNumbered number (saFrom 32 0 m))) in
+      let long : 4 ≤ length payload = omega (arith, sa-long 0 (setReply ah esp transforms (setNumbered number (saFrom 32 0 m)))) in
+      record {
+        readable = message-reads exchange payload h a lies (not-five (known-of exchange _ known)) long (begins .0) (begins .1) (repeats .readable);
+        one-set = rw sa (repeats .alone);
+        as-many = rw sa (repeats .as-many);
+        each = rw sa repeated;
+      }
+
+-- every choice is answered by a reply that reads back: from a message that reads, a buffer with room and own SPIs that may be used
+pub reply-reads-back : (book m : List ℕ) (exchange count ah esp : ℕ) (number : ProposalNumber) (line : LineNumber) (transforms : Transforms) (buffer : List ℕ) →
+    message m ≡ Read exchange count → choice book m ≡ Chosen number line transforms → 2048 ≤ length buffer → ah < 4294967296 → esp < 4294967296 →
+    spisLow ah esp transforms (setNumbered number (saFrom 32 0 m)) ≡ false →
+    Replied exchange count ah esp m number transforms buffer (replied book m ah esp buffer)
+reply-reads-back book m exchange count ah esp number line transforms buffer readable chosen room small-ah small-esp low =
+    let c = chose-says exchange count book m readable number line transforms chosen in
+    let bytes : List ℕ = saOf 0 (setReply ah esp transforms (setNumbered number (saFrom 32 0 m))) in
+    let few : length bytes ≤ 148 = short exchange count book m number line transforms c ah esp small-ah small-esp low in
+    rw (choice-written book m buffer ah esp number line transforms chosen room low) (record {
+      payload = bytes;
+      fits = omega arith;
+      answered = refl;
+      in-front = paste-inside buffer 0 bytes (omega arith);
+      else-kept = drop-paste (length bytes) buffer 0 bytes (omega arith);
+      k = c .k;
+      offered = c .a-set;
+      chosen-set = c .its-number;
+      reads-back = reads-back exchange count book m number line transforms c ah esp small-ah small-esp low;
+    })
