@@ -196,14 +196,17 @@ first-transform exchange left least s h =
     let f = transform-fits left s (right .0) in
     let n : ℕ = numberAt 2 s 2 in
     let size : length (take n s) ≡ n = length-take-le n s (f .within) in
-    let long : 8 ≤ n = f .long in
-    (record {
-      long = omega arith;
-      lies = number-take 2 n s 2 (omega arith) ∙ sym size;
-      reserved = getD-take n s 1 0 (omega arith) ∙ f .reserved;
-      also-reserved = number-take 2 n s 6 (omega arith) ∙ f .also-reserved;
-      attributes = low .1;
-    }, ltb-false _ _ (low .0), getD-take n s 4 0 (omega arith))
+    let long : 8 ≤ n = f .long in (
+      record {
+        long = omega arith;
+        lies = number-take 2 n s 2 (omega arith) ∙ sym size;
+        reserved = getD-take n s 1 0 (omega arith) ∙ f .reserved;
+        also-reserved = number-take 2 n s 6 (omega arith) ∙ f .also-reserved;
+        attributes = low .1;
+      },
+      ltb-false _ _ (low .0),
+      getD-take n s 4 0 (omega arith),
+    )
 
 pub after-transform : (left exchange least : ℕ) (s : List ℕ) → transformsCode (suc left) exchange least s ≡ 0 →
     (transformCode exchange left least s ≡ 0) × (transformsCode left exchange (getD s 4 0 + 1) (drop (numberAt 2 s 2) s) ≡ 0)

@@ -172,7 +172,7 @@ module _ (exchange high low number protocol : ℕ) (spi t : List ℕ) (w : Write
   last-reads left previous set order =
       let same : last-one ++ [] ≡ last-one = append-nil last-one in
       let ordered : orderWrong previous set (last-one ++ []) ≡ false = rw same order in
-      let fine : proposalCode exchange previous set last-one ≡ 0 = 
+      let fine : proposalCode exchange previous set last-one ≡ 0 =
       subst (λ (l : List ℕ). proposalCode exchange previous set l ≡ 0) same (code exchange 0 high low number protocol spi t w [] previous set ordered) in
       last-proposal left exchange previous set last-one fine refl (rw last-size (ap length (drop-length last-one)))
 

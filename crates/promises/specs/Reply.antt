@@ -11,11 +11,11 @@ use lib.ListN.{length, getD, take, drop, List·getD-append}
 use lib.Seq.{drop-at}
 use lib.Dec.{eqb}
 use borrow.Author.Tests.{eq-eqb, ne-eqb}
-use Rattle.wire.specs.Wire.{numberAt, paste}
+use Rattle.wire.specs.Wire.{numberAt, bytesOf, paste}
 use Rattle.wire.specs.Tests.{if_then_else_}
-use Rattle.wire.proofs.Tests.{by-test}
+use Rattle.wire.proofs.Tests.{by-test, passed}
 use Rattle.wire.proofs.Laws.{paste-inside, drop-paste}
-use Rattle.message.specs.Header.{exchangeOf, flagsOf, firstPayload, headerCode}
+use Rattle.message.specs.Header.{exchangeOf, flagsOf, firstPayload, lengthWrong, majorWrong, minorWrong, exchangeRefused, exchangeUnknown, flagsWrong, cookieWrong, messageIdWrong, padWrong, noPayload, headerCode}
 use Rattle.message.specs.Message.{message}
 use Rattle.message.specs.declared.Message.the-variants.{Read}
 use Rattle.message.proofs.Laws.{one-sa-reads}
@@ -71,6 +71,10 @@ pub record Around (exchange : ℕ) (payload h : List ℕ) : Type 0 where
   pub same-exchange : exchangeOf h ≡ exchange
   pub plain : flagsOf h ≡ 0
 
+-- one such header: the offer's, with an SA payload first, no flag, and the length of the reply's message
+unfoldable pub headerFor : List ℕ → ℕ → List ℕ
+headerFor m size = take 16 m ++ (1 ∷ getD m 17 0 ∷ getD m 18 0 ∷ 0 ∷ (take 4 (drop 20 m) ++ bytesOf 4 size))
+
 -- what the reply to a choice is, in the buffer b after it, and that it reads back
 pub record Replied (exchange count ah esp : ℕ) (m : List ℕ) (number : ProposalNumber) (transforms : Transforms) (buffer : List ℕ) (r : Reply × List ℕ) : Type 0 where
   pub payload : List ℕ
@@ -103,6 +107,32 @@ module _ (exchange i : ℕ) (book s : List ℕ) where
 
   at-most-two : protocolsSuit exchange i book s ≡ true → proposalCount s ≤ 2
   at-most-two h = ⊎-elim (λ e. omega arith) (λ p. omega (arith, p .two)) (shape s exchange i book h)
+
+-- ---- the offer's header around a reply
+
+-- a header with the same cookies, version, exchange and message ID, no flag, and some payload
+record Alike (m n : List ℕ) : Type 0 where
+  cookies : take 8 n ≡ take 8 m
+  cookies-too : take 8 (drop 8 n) ≡ take 8 (drop 8 m)
+  some : getD n 16 0 ≡ 1
+  version : getD n 17 0 ≡ getD m 17 0
+  same : getD n 18 0 ≡ getD m 18 0
+  flag : getD n 19 0 ≡ 0
+  id : numberAt 4 n 20 ≡ numberAt 4 m 20
+  right : lengthWrong n ≡ false
+
+alike-lawful : (m n : List ℕ) → Alike m n → headerCode m ≡ 0 → headerCode n ≡ 0
+unfolding headerCode majorWrong minorWrong exchangeRefused exchangeUnknown flagsWrong cookieWrong messageIdWrong padWrong noPayload
+alike-lawful m n a h =
+    let long = passed (lengthWrong m) 30 _ (λ z. omega arith) h in
+    let major = passed (majorWrong m) 5 _ (λ z. omega arith) (long .1) in
+    let minor = passed (minorWrong m) 6 _ (λ z. omega arith) (major .1) in
+    let past = passed (exchangeRefused m) 29 _ (λ z. omega arith) (minor .1) in
+    let known = passed (exchangeUnknown m) 7 _ (λ z. omega arith) (past .1) in
+    let flags = passed (flagsWrong m) 8 _ (λ z. omega arith) (known .1) in
+    let cookie = passed (cookieWrong m) 4 _ (λ z. omega arith) (flags .1) in
+    let id = passed (messageIdWrong m) 9 _ (λ z. omega arith) (cookie .1) in
+    rw (a .right, a .cookies, a .cookies-too, a .some, a .version, a .same, a .flag, a .id, major .0, minor .0, past .0, known .0, cookie .0, id .0)
 
 -- the message around a payload, whose body reads
 module _ (exchange : ℕ) (payload h : List ℕ) (a : Around exchange payload h) where
