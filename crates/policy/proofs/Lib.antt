@@ -2,7 +2,7 @@ pub mod Laws
 pub mod SuitLaws
 pub mod ChoiceLaws
 pub mod ReplyLaws
-mod ReplyWays
+pub mod ReplyWays
 mod BookWays
 mod SuitWays
 mod ChoiceWays

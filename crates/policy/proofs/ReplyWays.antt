@@ -131,7 +131,7 @@ module _ (l b : List ℕ) (at ah esp n : ℕ) (t : TransformNumber) (s p : List 
 
 -- ---- the SA payload
 
-set-size : (ah esp : ℕ) (transforms : Transforms) (s : List ℕ) → length (setReply ah esp transforms s) ≤ 32 + length s
+pub set-size : (ah esp : ℕ) (transforms : Transforms) (s : List ℕ) → length (setReply ah esp transforms s) ≤ 32 + length s
 unfolding setReply
 set-size ah esp (One t) s = omega (arith, offered-size ah esp 0 t (proposal 0 s), two-within s)
 set-size ah esp (Two t u) s =
@@ -147,14 +147,23 @@ module _ (l b : List ℕ) (at ah esp n : ℕ) (transforms : Transforms) (s : Lis
   pub set-fits : n ≤ 32 + length s
   set-fits = omega (arith, put-size l b (at + 12) n (setReply ah esp transforms s) e, set-size ah esp transforms s)
 
-  pub sa-written : (next : ℕ) (c d : List ℕ) → c ≡ paste b (at + 4) (0 ∷ 0 ∷ 0 ∷ 1 ∷ 0 ∷ 0 ∷ 0 ∷ 1 ∷ []) → d ≡ paste c at (head next (12 + n)) →
-      put l at (saOf next (setReply ah esp transforms s)) ≡ (12 + n, d)
-  unfolding saOf bytesOf
-  sa-written next c d f g =
-      let inner : put l (at + 4 + 8) (setReply ah esp transforms s) ≡ (n, b) = ap (λ (k : ℕ). put l k (setReply ah esp transforms s)) (omega arith) ∙ e in
-      let last : d ≡ paste c at (head next (4 + (8 + n))) = g ∙ ap (λ (k : ℕ). paste c at (head next k)) (omega arith) in
-      put-head-last l c d at (8 + n) next _ (put-before l b c (at + 4) n (0 ∷ 0 ∷ 0 ∷ 1 ∷ 0 ∷ 0 ∷ 0 ∷ 1 ∷ []) (setReply ah esp transforms s) inner f) last
-      ∙ ap (λ (k : ℕ). (k, d)) (omega arith)
+pub sa-size : (next : ℕ) (proposals : List ℕ) → length (saOf next proposals) ≡ 12 + length proposals
+unfolding saOf bytesOf
+sa-size next proposals = length-headed next (0 ∷ 0 ∷ 0 ∷ 1 ∷ 0 ∷ 0 ∷ 0 ∷ 1 ∷ proposals) ∙ omega arith
+
+pub reply-fits : (l b : List ℕ) (at next ah esp n : ℕ) (transforms : Transforms) (s : List ℕ) → put l at (saOf next (setReply ah esp transforms s)) ≡ (n, b) → n ≤ 44 + length s
+reply-fits l b at next ah esp n transforms s e =
+    omega (arith, put-size l b at n (saOf next (setReply ah esp transforms s)) e, sa-size next (setReply ah esp transforms s), set-size ah esp transforms s)
+
+-- DOI, situation and head, written before the proposals
+pub sa-written : (l b : List ℕ) (at n : ℕ) (proposals : List ℕ) → put l (at + 12) proposals ≡ (n, b) →
+    (next : ℕ) (c d : List ℕ) → c ≡ paste b (at + 4) (0 ∷ 0 ∷ 0 ∷ 1 ∷ 0 ∷ 0 ∷ 0 ∷ 1 ∷ []) → d ≡ paste c at (head next (12 + n)) → put l at (saOf next proposals) ≡ (12 + n, d)
+unfolding saOf bytesOf
+sa-written l b at n proposals e next c d f g =
+    let inner : put l (at + 4 + 8) proposals ≡ (n, b) = ap (λ (k : ℕ). put l k proposals) (omega arith) ∙ e in
+    let last : d ≡ paste c at (head next (4 + (8 + n))) = g ∙ ap (λ (k : ℕ). paste c at (head next k)) (omega arith) in
+    put-head-last l c d at (8 + n) next _ (put-before l b c (at + 4) n (0 ∷ 0 ∷ 0 ∷ 1 ∷ 0 ∷ 0 ∷ 0 ∷ 1 ∷ []) proposals inner f) last
+    ∙ ap (λ (k : ℕ). (k, d)) (omega arith)
 
 -- ---- own SPIs
 

@@ -102,13 +102,14 @@ fn set_from(n: u8, k: u8, exchange: u8, book: &[u8], body: &[u8]) -> Choice
 }
 
 // The choice among the sets of an SA payload's body.
-fn choose_from(exchange: u8, book: &[u8], body: &[u8]) -> Choice
+pub fn choose_from(exchange: u8, book: &[u8], body: &[u8]) -> Choice
     ensures { λ r. ⌜ r ≡ chooseFrom exchange (now (book .entry)) (now (body .entry)) ⌝ }
 {
     set_from(set_count(body), 0, exchange, book, body)
 }
 
-fn body_at(k: u8, m: &[u8]) -> &[u8]
+// The body of payload k, counted from 0.
+pub fn body_at(k: u8, m: &[u8]) -> &[u8]
     ensures { λ r. ⌜ now r ≡ bodyAt k (now (m .entry)) ⌝ }
 {
     let p = payload_at(m, k);

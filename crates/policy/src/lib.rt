@@ -2,7 +2,7 @@
 pub mod choose;
 pub mod lines;
 pub mod replies;
-mod suits;
+pub mod suits;
 
 use sets::ProposalNumber;
 use sets::TransformNumber;

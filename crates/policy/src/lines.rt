@@ -12,7 +12,7 @@ fn quick_start(book: &[u8]) -> u16
 }
 
 // How many quick lines the book has.
-pub(crate) fn quick_count(book: &[u8]) -> u8
+pub fn quick_count(book: &[u8]) -> u8
     ensures { λ r. ⌜ r ≡ quickCount (now (book .entry)) ⌝ }
 {
     byte(book, quick_start(book) as usize)
@@ -39,19 +39,19 @@ fn quick_at(i: u8, book: &[u8]) -> u32
 }
 
 // The protocols, the mode and the longest seconds of quick line i, counted from 0.
-pub(crate) fn quick_protocols(i: u8, book: &[u8]) -> u8
+pub fn quick_protocols(i: u8, book: &[u8]) -> u8
     ensures { λ r. ⌜ r ≡ quickProtocols i (now (book .entry)) ⌝ }
 {
     byte(book, quick_at(i, book) as usize)
 }
 
-pub(crate) fn quick_mode(i: u8, book: &[u8]) -> u8
+pub fn quick_mode(i: u8, book: &[u8]) -> u8
     ensures { λ r. ⌜ r ≡ quickMode i (now (book .entry)) ⌝ }
 {
     byte(book, quick_at(i, book) as usize + 1)
 }
 
-pub(crate) fn quick_seconds(i: u8, book: &[u8]) -> u32
+pub fn quick_seconds(i: u8, book: &[u8]) -> u32
     ensures { λ r. ⌜ r ≡ quickSeconds i (now (book .entry)) ⌝ }
 {
     be32(book, quick_at(i, book) as usize + 2)

@@ -54,8 +54,7 @@ fn put_fields(
     put_bytes(buffer, at + 4, &[number.0, protocol, spi, 1]);
 }
 
-// Writes a proposal of one transform; says how many bytes it has.
-fn put_proposal(
+fn put_proposal_at(
     buffer: &mut [u8],
     at: usize,
     ah: u32,
@@ -76,6 +75,23 @@ fn put_proposal(
     size
 }
 
+// Writes a proposal of one transform, with the own SPI of its protocol; says how many bytes it has. The transform's next and length are
+// set anew.
+pub fn put_proposal(
+    buffer: &mut [u8],
+    at: u32,
+    ah: u32,
+    esp: u32,
+    next: u8,
+    number: ProposalNumber,
+    protocol: u8,
+    t: &[u8],
+) -> usize
+    ensures { λ r. ⌜ put (now (buffer .entry)) at (proposalOf next (number .0) protocol (ownSpi ah esp protocol) (now (t .entry))) ≡ (r, now (buffer .exit)) ⌝ }
+{
+    put_proposal_at(buffer, at as usize, ah, esp, next, number, protocol, t)
+}
+
 // Writes the reply to a proposal of the offer: the same but for the SPI and all transforms but one.
 fn put_offered(
     buffer: &mut [u8],
@@ -90,7 +106,7 @@ fn put_offered(
     ensures { λ r. ⌜ put (now (buffer .entry)) at (proposalReply ah esp next number (now (p .entry))) ≡ (r, now (buffer .exit)) ⌝ }
 {
     let t = transform_numbered(number, p);
-    put_proposal(
+    put_proposal_at(
         buffer,
         at,
         ah,

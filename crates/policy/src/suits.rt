@@ -58,7 +58,7 @@ fn main_suits(seconds: u32, t: &[u8]) -> bool
         & nothing_surplus(6, attributes)
 }
 
-fn quick_id(protocol: u8) -> u8
+pub fn quick_id(protocol: u8) -> u8
     ensures { λ r. ⌜ r ≡ quickId protocol ⌝ }
 {
     if protocol == 2 { 20 } else { 129 }

@@ -1,10 +1,10 @@
 use Rattle.policy.proofs.ReplyWays.{proposal-written}
 use borrow.Author.Needs.{needs}
-use Rattle.policy.proofs.replies.put_proposal.Statement.{statement}
-use Rattle.policy.proofs.replies.put_proposal.Tie as tie
+use Rattle.policy.proofs.replies.put_proposal_at.Statement.{statement}
+use Rattle.policy.proofs.replies.put_proposal_at.Tie as tie
 
-pub put-proposal-spec : {M : Type 1} → statement M
-put-proposal-spec =
+pub put-proposal-at-spec : {M : Type 1} → statement M
+put-proposal-at-spec =
     tie.close
     (tie.spec
     (λ c κs. search needs)

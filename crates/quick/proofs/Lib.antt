@@ -1,0 +1,2 @@
+mod ReadingWays
+mod WritingWays

@@ -1,0 +1,17 @@
+use Rattle.quick.specs.Checks.{alike}
+use borrow.Author.Needs.{needs}
+use Rattle.quick.proofs.reading.alike.Statement.{statement}
+use Rattle.quick.proofs.reading.alike.Tie as tie
+
+pub alike-spec : {M : Type 1} → statement M
+unfolding alike
+alike-spec =
+    tie.close
+    (tie.spec
+    (λ c κs. search needs)
+    (λ c κs. search needs)
+    (λ c κs. search needs)
+    (λ c κs. search needs)
+    (λ c κs. search needs)
+    (λ c κs. search needs)
+    (λ c. cc))

@@ -1,0 +1,19 @@
+use Rattle.quick.specs.Checks.{identitiesSame}
+use borrow.Author.Needs.{needs}
+use Rattle.quick.proofs.reading.identities_same.Statement.{statement}
+use Rattle.quick.proofs.reading.identities_same.Tie as tie
+
+pub identities-same-spec : {M : Type 1} → statement M
+unfolding identitiesSame
+identities-same-spec =
+    tie.close
+    (tie.spec
+    (λ c κs. search needs)
+    (λ c κs. search needs)
+    (λ c κs. search needs)
+    (λ c κs. search needs)
+    (λ c κs. search needs)
+    (λ c κs. search needs)
+    (λ c κs. search needs)
+    (λ c κs. search needs)
+    (λ c. cc))
