@@ -1,16 +1,16 @@
 -- Lawful attributes that are all of wanted types are short: such a type is sent fixed, or is a duration of at most 4 bytes. Where so many
 -- attributes stand as there are wanted types, and each wanted type is there, no other type is, because a type has its own attribute.
-use Prim.Native.Nat.{ℕ, zero, suc, _+_, _-_, _*_, _≤_, _<_}
-use mathlib.Core.Path.{_≡_, refl, sym, ap, _∙_}
+use Prim.Native.Nat.{ℕ, zero, suc, _+_, _-_, _*_, _≤_}
+use mathlib.Core.Path.{_≡_, refl, ap, _∙_}
 use mathlib.Core.List.{List, [], _∷_, _++_}
 use mathlib.Core.Bool.{Bool, true, false, not, _||_, _&&_}
 use native.Mathlib.Omega.{arith}
 use lib.ListN.{length, take, drop, length-drop}
 use lib.Dec.{ltb, leb, eqb}
-use borrow.Author.Tests.{eqb-true, eqb-false, ne-eqb, eq-eqb, ltb-false, ltb-true, leb-true, not-false, not-true}
+use borrow.Author.Tests.{eqb-true, eqb-false, ne-eqb, eq-eqb, ltb-false, leb-true, not-false}
 use Rattle.wire.specs.Wire.{numberAt}
 use Rattle.wire.specs.Tests.{if_then_else_}
-use Rattle.wire.proofs.Tests.{clash, both, neither, by-test, passed}
+use Rattle.wire.proofs.Tests.{both, neither, by-test, passed}
 use Rattle.attribute.specs.Attributes.{sentFixed, attributeType, attributeSize, outOfBounds, find, attribute, mustBeFixed, fixedWrong, isDuration, durationWrong, attributeCode, attributesCode, attributesLawful, countFrom, attributeCount}
 
 -- how often a type is wanted; each wanted type stands once in a list that is apart

@@ -1,26 +1,25 @@
 -- What a message that reads consists of: its payloads one behind the other from byte 28 on, an SA payload among them with a body that reads.
 -- And when a message of one SA payload reads.
 use Prim.Native.Nat.{ℕ, zero, suc, _+_, _≤_, _<_}
-use mathlib.Core.Path.{_≡_, refl, sym, ap, _∙_}
-use mathlib.Core.List.{List, [], _∷_}
-use mathlib.Core.Bool.{Bool, true, false, not, _||_, _&&_}
+use mathlib.Core.Path.{_≡_, refl, sym, ap}
+use mathlib.Core.List.{List, [], _∷_, _++_}
+use mathlib.Core.Bool.{Bool, true, false, not, _||_}
 use native.Mathlib.Omega.{arith}
 use native.Mathlib.Nat.{add-zero}
-use lib.ListN.{length, getD, take, drop, length-drop}
-use lib.Seq.{getD-drop, drop-drop, drop-length, take-length}
+use lib.ListN.{length, getD, drop, length-drop}
+use lib.Seq.{getD-drop, drop-drop, drop-length, take-length, take-append-seam}
 use lib.Dec.{ltb, eqb}
 use borrow.Author.Tests.{eqb-true, ne-eqb, ltb-false, le-ltb, not-false}
 use Rattle.wire.specs.Wire.{numberAt}
 use Rattle.wire.specs.Tests.{if_then_else_}
-use Rattle.wire.proofs.Tests.{never, neither, by-test, passed}
-use Rattle.wire.proofs.Laws.{number-drop}
+use Rattle.wire.proofs.Tests.{never, neither, passed}
+use Rattle.wire.proofs.Laws.{number-drop, number-append}
 use Rattle.offer.specs.Proposals.{offerCode}
 use Rattle.message.specs.Header.{exchangeOf, flagsOf, firstPayload, lengthWrong, headerCode}
 use Rattle.message.specs.Payloads.{typeWrong, lengthOut, bodyCode, bodyOf, payloadCode, restCode}
-use Rattle.message.specs.Message.{Reading, refused, payloads, first, chain, reading, counted, message, walk, payloadAt}
+use Rattle.message.specs.Message.{Reading, refused, payloads, first, chain, reading, counted, message, walk}
 use Rattle.message.specs.declared.Payload.{Payload}
-use Rattle.message.specs.declared.Message.{Message}
-use Rattle.message.specs.declared.Message.the-variants.{Refused, Read}
+use Rattle.message.specs.declared.Message.the-variants.{Read}
 
 abbrev nowhere : Payload
 nowhere = record { kind = 0; start = 0; length = 0 }
@@ -163,21 +162,23 @@ found (suc left) exchange flags another type start m ps h e =
     (rw ep (more-found exchange left m type start qs h (payload-within exchange another type (drop start m) fine) (payload-offer exchange another type (drop start m) fine) after), cons-some ps _ qs ep))
 
 -- a message whose header is not refused has one
-header-long : (m : List ℕ) → headerCode m ≡ 0 → 28 ≤ length m
+pub header-long : (m : List ℕ) → headerCode m ≡ 0 → 28 ≤ length m
 unfolding headerCode lengthWrong
 header-long m h =
     let right = passed (lengthWrong m) 30 _ (λ z. omega arith) h in
     let short = neither (ltb (length m) 28 || ltb 8192 (length m)) _ (right .0) in
     ltb-false (length m) 28 (neither (ltb (length m) 28) (ltb 8192 (length m)) (short .0) .0)
 
+pub reading-header : (m : List ℕ) (ps : List Payload) → reading m ≡ payloads ps → headerCode m ≡ 0
+unfolding reading
+reading-header m ps e = by-pick (not (eqb (headerCode m) 0)) (refused (headerCode m)) _ _ e (λ w v. nothing _ ps v) (λ w v. eqb-true (headerCode m) 0 (not-false (eqb (headerCode m) 0) w))
+
 pub reading-found : (m : List ℕ) (ps : List Payload) → reading m ≡ payloads ps → Found (exchangeOf m) 32 m (firstPayload m) 28 ps × (0 < length ps)
 unfolding reading
 reading-found m ps e =
-    by-pick _ _ _ _ e
+    by-pick (not (eqb (headerCode m) 0)) (refused (headerCode m)) _ _ e
     (λ w v. nothing _ ps v)
-    (λ w v.
-    let code = headerCode m in
-    found 32 (exchangeOf m) (flagsOf m) false (firstPayload m) 28 m ps (header-long m (eqb-true code 0 (not-false (eqb code 0) w))) v)
+    (λ w v. found 32 (exchangeOf m) (flagsOf m) false (firstPayload m) 28 m ps (header-long m (reading-header m ps e)) v)
 
 -- ---- the message
 
@@ -201,11 +202,20 @@ read-as m exchange count h = read-of m exchange count (reading m) refl h
 
 -- ---- a message of one SA payload
 
-sa-payload : (exchange : ℕ) (s : List ℕ) → (exchange ≡ 5 → ⊥) → 4 ≤ length s → getD s 1 0 ≡ 0 → numberAt 2 s 2 ≡ length s → offerCode exchange (drop 4 s) ≡ 0 → payloadCode exchange false 1 s ≡ 0
-unfolding payloadCode typeWrong lengthOut bodyCode bodyOf
-sa-payload exchange s other long reserved lies reads =
-    let within : ltb (length s) (length s) ≡ false = le-ltb (length s) (length s) (omega arith) in
-    rw (ne-eqb exchange 5 other, le-ltb (length s) 4 long, reserved, lies, le-ltb (length s) 4 long, within, take-length s) reads
+-- the SA payload at the front of s passes where its body reads
+pub sa-payload : (exchange : ℕ) (s : List ℕ) → (exchange ≡ 5 → ⊥) → getD s 1 0 ≡ 0 → 4 ≤ numberAt 2 s 2 → numberAt 2 s 2 ≤ length s → offerCode exchange (bodyOf s) ≡ 0 → payloadCode exchange false 1 s ≡ 0
+unfolding payloadCode typeWrong lengthOut bodyCode
+sa-payload exchange s other reserved long within reads =
+    rw (ne-eqb exchange 5 other, le-ltb (length s) 4 (omega arith), reserved, le-ltb (numberAt 2 s 2) 4 long, le-ltb (length s) (numberAt 2 s 2) within) reads
+
+-- and the body of a payload that is as long as it says, whatever follows
+pub body-front : (p rest : List ℕ) → 4 ≤ length p → numberAt 2 p 2 ≡ length p → bodyOf (p ++ rest) ≡ drop 4 p
+unfolding bodyOf
+body-front p rest long lies = rw (number-append 2 p rest 2 (omega arith), lies) (ap (drop 4) (take-append-seam p rest))
+
+body-whole : (p : List ℕ) → numberAt 2 p 2 ≡ length p → bodyOf p ≡ drop 4 p
+unfolding bodyOf
+body-whole p lies = rw lies (ap (drop 4) (take-length p))
 
 one-chain : (left exchange : ℕ) (s : List ℕ) → payloadCode exchange false 1 s ≡ 0 → getD s 0 0 ≡ 0 → numberAt 2 s 2 ≡ length s → (start : ℕ) → counted exchange 0 (chain (suc left) exchange 0 false 1 start s) ≡ Read exchange 1
 unfolding chain first counted restCode
@@ -215,4 +225,7 @@ one-chain left exchange s fine last lies start = rw (fine, last, lies, drop-leng
 pub one-sa-reads : (m : List ℕ) → headerCode m ≡ 0 → firstPayload m ≡ 1 → flagsOf m ≡ 0 → (exchangeOf m ≡ 5 → ⊥) → 4 ≤ length (drop 28 m) → getD (drop 28 m) 0 0 ≡ 0 → getD (drop 28 m) 1 0 ≡ 0 → numberAt 2 (drop 28 m) 2 ≡ length (drop 28 m) → offerCode (exchangeOf m) (drop 4 (drop 28 m)) ≡ 0 → message m ≡ Read (exchangeOf m) 1
 unfolding message reading
 one-sa-reads m header first flags other long last reserved lies reads =
-    rw (header, first, flags) (one-chain 31 (exchangeOf m) (drop 28 m) (sa-payload (exchangeOf m) (drop 28 m) other long reserved lies reads) last lies 28)
+    let s : List ℕ = drop 28 m in
+    let body : offerCode (exchangeOf m) (bodyOf s) ≡ 0 = rw (body-whole s lies) reads in
+    let fine : payloadCode (exchangeOf m) false 1 s ≡ 0 = sa-payload (exchangeOf m) s other reserved (omega arith) (omega arith) body in
+    rw (header, first, flags) (one-chain 31 (exchangeOf m) s fine last lies 28)

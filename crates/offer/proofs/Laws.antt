@@ -2,14 +2,13 @@
 use Prim.Native.Nat.{ℕ, zero, suc, _+_, _≤_, _<_}
 use mathlib.Core.Path.{_≡_, sym, _∙_}
 use mathlib.Core.List.{List, [], _∷_, flatten}
-use mathlib.Core.Bool.{Bool, false, not, _||_, _&&_}
+use mathlib.Core.Bool.{Bool, false, not, _||_}
 use native.Mathlib.Omega.{arith}
 use lib.ListN.{length, getD, take, drop, take-append-drop}
 use lib.Seq.{length-take-le, getD-take, take-all, take-take}
 use lib.Dec.{ltb, leb, eqb}
 use borrow.Author.Tests.{ltb-false, leb-true, eqb-true, eqb-false, not-false}
 use Rattle.wire.specs.Wire.{numberAt}
-use Rattle.wire.specs.Tests.{if_then_else_}
 use Rattle.wire.proofs.Tests.{neither, both, by-test, passed}
 use Rattle.wire.proofs.Laws.{number-take}
 use Rattle.attribute.specs.Attributes.{attributesLawful}

@@ -1,19 +1,17 @@
 -- What a writer must see to, so that the proposals it writes read: one or two of them, of one number, each with one transform.
-use Prim.Native.Nat.{ℕ, zero, suc, _+_, _*_, _≤_, _<_}
+use Prim.Native.Nat.{ℕ, suc, _+_, _*_, _≤_}
 use mathlib.Core.Path.{_≡_, refl, sym, ap, _∙_, subst}
-use mathlib.Core.Logic.{_⊎_, inl, inr, ⊎-elim}
+use mathlib.Core.Logic.{_⊎_, ⊎-elim}
 use mathlib.Core.List.{List, [], _∷_, _++_, append-nil}
-use mathlib.Core.Bool.{Bool, true, false, not, _||_, _&&_}
+use mathlib.Core.Bool.{Bool, true, false, _||_, _&&_}
 use native.Mathlib.Omega.{arith}
-use lib.ListN.{length, getD, take, drop, length-append, length-drop}
+use lib.ListN.{length, getD, take, drop, length-append}
 use lib.Seq.{take-length, drop-length, take-append-seam, drop-append-seam, drop-drop}
 use lib.Dec.{ltb, leb, eqb}
 use borrow.Author.Tests.{eqb-true, eq-eqb, ne-eqb, le-ltb, le-leb}
 use Rattle.wire.specs.Wire.{numberAt}
-use Rattle.wire.specs.Tests.{if_then_else_}
 use Rattle.wire.proofs.Tests.{by-test}
 use Rattle.wire.proofs.Laws.{number-append, number-append-add}
-use Rattle.attribute.specs.Attributes.{attributesLawful}
 use Rattle.offer.specs.Transforms.{nextWanted, transformWrong, transformCode, transformsCode}
 use Rattle.offer.specs.Proposals.{proposalWrong, has, with, setBefore, none, orderWrong, protocolWrong, spiWrong, countWrong, transformBytes, innerCode, proposalCode, proposalsCode, offerCode}
 use Rattle.offer.specs.declared.Protocols.{Protocols}
@@ -175,9 +173,6 @@ module _ (exchange high low number protocol : ℕ) (spi t : List ℕ) (w : Write
       let fine : proposalCode exchange previous set last-one ≡ 0 =
       subst (λ (l : List ℕ). proposalCode exchange previous set l ≡ 0) same (code exchange 0 high low number protocol spi t w [] previous set ordered) in
       last-proposal left exchange previous set last-one fine refl (rw last-size (ap length (drop-length last-one)))
-
-  pub last-lawful : Item exchange last-one
-  last-lawful = proposed-lawful exchange 0 high low number protocol spi t w [] 0 none (order-first (last-one ++ []))
 
   pub one-reads : proposalsCode 16 exchange 0 none last-one ≡ 0
   one-reads = last-reads 15 0 none (order-first last-one)

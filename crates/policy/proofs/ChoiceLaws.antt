@@ -97,6 +97,7 @@ pub record Chose (exchange count : ℕ) (book m : List ℕ) (number : ProposalNu
   pub suits : Suits exchange i book (set k (saFrom count 0 m))
   pub lawful : LawfulSet exchange (set k (saFrom count 0 m))
   pub its-number : proposalNumber (proposal 0 (set k (saFrom count 0 m))) ≡ number
+  pub same-sa : saFrom 32 0 m ≡ saFrom count 0 m
   pub by-number : setNumbered number (saFrom 32 0 m) ≡ set k (saFrom count 0 m)
   pub its-line : line .0 ≡ i + 1
   pub taken : transforms ≡ transformsOf exchange i book (set k (saFrom count 0 m))
@@ -135,6 +136,7 @@ module _ (exchange count : ℕ) (book m : List ℕ) (readable : message m ≡ re
           suits = suits-says exchange i book (set j body) t;
           lawful = set-lawful exchange body reads j a-set;
           its-number = same;
+          same-sa = sa-same m exchange count readable some;
           by-number = rw (sa-same m exchange count readable some, ← same) (set-by-number exchange body reads j a-set);
           its-line = ap (λ (n : LineNumber). n .0) (sym same-line);
           taken = sym taken ∙ ap (λ (n : ℕ). transformsOf exchange n book (set j body)) place;

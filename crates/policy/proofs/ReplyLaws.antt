@@ -4,7 +4,7 @@ use Prim.Native.Nat.{ℕ, zero, suc, _+_, _-_, _/_, _%_, _≤_, _<_}
 use mathlib.Core.Path.{_≡_, refl, sym, ap, _∙_}
 use mathlib.Core.Logic.{_⊎_, inl, inr, ⊎-elim}
 use mathlib.Core.List.{List, [], _∷_, _++_, append-nil, flatten}
-use mathlib.Core.Bool.{false, not}
+use mathlib.Core.Bool.{false}
 use native.Mathlib.Omega.{arith}
 use lib.ListN.{length, getD, drop, length-append, length-drop}
 use lib.Seq.{take-length, take-append-seam, drop-cons, drop-drop, getD-drop}
@@ -28,7 +28,7 @@ use Rattle.policy.specs.declared.LineNumber.{LineNumber}
 use Rattle.policy.specs.declared.Choice.the-variants.{Chosen}
 use Rattle.policy.specs.declared.Transforms.{Transforms}
 use Rattle.policy.specs.declared.Transforms.the-variants.{One, Two}
-use Rattle.policy.specs.Choice.{numberOf, transformsOf, chosen, saFrom, choice}
+use Rattle.policy.specs.Choice.{numberOf, transformsOf, saFrom, choice}
 use Rattle.policy.proofs.Laws.{HasTransform, Suits}
 use Rattle.policy.specs.Suits.{lowest}
 use Rattle.policy.proofs.SuitLaws.{Known, isakmp, ah-of, esp-of, known-of, known-quick, suiting-short, chosenIn, taken, taken-by-number, Pair, shape}
@@ -157,8 +157,8 @@ module _ (exchange ah esp : ℕ) (small-ah : ah < 4294967296) (small-esp : esp <
           own-spi = take-append-seam own (0 ∷ drop 1 t);
         }
 
-    followed-lawful : (rest : List ℕ) → Item exchange (as-proposed next)
-    followed-lawful rest = proposed-lawful exchange next (size / 256 % 256) (size % 256) (proposalNumber p .0) (protocol p) own (0 ∷ drop 1 t) writes rest 0 proposals.none (order-first (as-proposed next ++ rest))
+    item : Item exchange (as-proposed next)
+    item = proposed-lawful exchange next (size / 256 % 256) (size % 256) (proposalNumber p .0) (protocol p) own (0 ∷ drop 1 t) writes [] 0 proposals.none (order-first (as-proposed next ++ []))
 
   alone-reads : proposalsCode 16 exchange 0 proposals.none (as-proposed 0) ≡ 0
   alone-reads = one-reads exchange (size / 256 % 256) (size % 256) (proposalNumber p .0) (protocol p) own (0 ∷ drop 1 t) (writes 0 (inl refl))
@@ -219,8 +219,8 @@ module _ (exchange ah esp : ℕ) (small-ah : ah < 4294967296) (small-esp : esp <
     parts-one : OneSet (framed (first-bytes 0)) (first-bytes 0 ∷ [])
     unfolding flatten
     parts-one =
-        let item = followed-lawful exchange ah esp small-ah small-esp (proposal 0 s) (chosen 0) first 0 (inl refl) [] in
-        one-set (framed (first-bytes 0)) (first-bytes 0) [] item end same-end (omega arith) (sym (append-nil (first-bytes 0)))
+        let lawful = item exchange ah esp small-ah small-esp (proposal 0 s) (chosen 0) first 0 (inl refl) in
+        one-set (framed (first-bytes 0)) (first-bytes 0) [] lawful end same-end (omega arith) (sym (append-nil (first-bytes 0)))
 
     one-repeats : Repeats exchange ah esp s chosen (framed (first-bytes 0))
     unfolding flatten
@@ -248,9 +248,9 @@ module _ (exchange ah esp : ℕ) (small-ah : ah < 4294967296) (small-esp : esp <
 
     two-lawful : Rising exchange (getD (first-bytes 2) 4 0) (second-bytes ∷ [])
     two-lawful =
-        let item = followed-lawful exchange ah esp small-ah small-esp (proposal 1 s) (chosen 1) second 0 (inl refl) [] in
+        let lawful = item exchange ah esp small-ah small-esp (proposal 1 s) (chosen 1) second 0 (inl refl) in
         let order : getD (first-bytes 2) 4 0 ≤ getD second-bytes 4 0 = omega (arith, same-value) in
-        on item order end
+        on lawful order end
 
     two-bytes-read : proposalsCode 16 exchange 0 proposals.none both-bytes ≡ 0
     two-bytes-read =
@@ -261,9 +261,9 @@ module _ (exchange ah esp : ℕ) (small-ah : ah < 4294967296) (small-esp : esp <
     parts-two : OneSet (framed both-bytes) (first-bytes 2 ∷ second-bytes ∷ [])
     unfolding flatten
     parts-two =
-        let item = followed-lawful exchange ah esp small-ah small-esp (proposal 0 s) (chosen 0) first 2 (inr (refl, quick)) [] in
+        let lawful = item exchange ah esp small-ah small-esp (proposal 0 s) (chosen 0) first 2 (inr (refl, quick)) in
         let one-number : Same (getD (first-bytes 2) 4 0) (second-bytes ∷ []) = same-on {p = second-bytes} same-value same-end in
-        one-set (framed both-bytes) (first-bytes 2) (second-bytes ∷ []) item two-lawful one-number (omega arith) (ap (λ (l : List ℕ). first-bytes 2 ++ l) (sym (append-nil second-bytes)))
+        one-set (framed both-bytes) (first-bytes 2) (second-bytes ∷ []) lawful two-lawful one-number (omega arith) (ap (λ (l : List ℕ). first-bytes 2 ++ l) (sym (append-nil second-bytes)))
 
     two-repeat : Repeats exchange ah esp s chosen (framed both-bytes)
     unfolding flatten

@@ -4,21 +4,21 @@
 use Prim.Native.Nat.{ℕ, zero, suc, _+_, _-_, _≤_, _<_}
 use mathlib.Core.Path.{_≡_, refl, sym, ap, _∙_}
 use mathlib.Core.Logic.{⊎-elim}
-use mathlib.Core.List.{List, [], _∷_, _++_}
-use mathlib.Core.Bool.{Bool, true, false}
+use mathlib.Core.List.{List, [], _∷_, _++_, append-assoc}
+use mathlib.Core.Bool.{true, false}
 use native.Mathlib.Omega.{arith}
-use lib.ListN.{length, getD, take, drop, List·getD-append}
-use lib.Seq.{drop-at}
+use lib.ListN.{length, getD, take, drop, length-drop, length-append, List·getD-append}
+use lib.Seq.{length-take-le, take-at, drop-at, take-add, drop-drop, getD-drop}
 use lib.Dec.{eqb}
-use borrow.Author.Tests.{eq-eqb, ne-eqb}
-use Rattle.wire.specs.Wire.{numberAt, bytesOf, paste}
-use Rattle.wire.specs.Tests.{if_then_else_}
+use borrow.Author.Tests.{eq-eqb, ne-eqb, le-ltb}
+use Rattle.wire.specs.Wire.{numberAt, bytesOf}
 use Rattle.wire.proofs.Tests.{by-test, passed}
-use Rattle.wire.proofs.Laws.{paste-inside, drop-paste}
+use Rattle.wire.proofs.Laws.{number-drop, number-take, number-append, number-append-add, length-bytesOf, number-bytesOf, paste-inside, drop-paste}
 use Rattle.message.specs.Header.{exchangeOf, flagsOf, firstPayload, lengthWrong, majorWrong, minorWrong, exchangeRefused, exchangeUnknown, flagsWrong, cookieWrong, messageIdWrong, padWrong, noPayload, headerCode}
 use Rattle.message.specs.Message.{message}
 use Rattle.message.specs.declared.Message.the-variants.{Read}
-use Rattle.message.proofs.Laws.{one-sa-reads}
+use Rattle.message.proofs.Laws.{reading-header, read-as, one-sa-reads}
+use Rattle.message.proofs.Laws as laws
 use Rattle.offer.specs.Proposals.{offerCode}
 use Rattle.sets.specs.Parts.{set, setCount, setNumbered, proposal, proposalCount, proposalNumber, protocol, spi, transform, transformCount, transformNumber}
 use Rattle.sets.specs.declared.ProposalNumber.{ProposalNumber}
@@ -32,9 +32,9 @@ use Rattle.policy.specs.declared.Transforms.the-variants.{One, Two}
 use Rattle.policy.specs.declared.Choice.the-variants.{Chosen}
 use Rattle.policy.specs.declared.Reply.{Reply}
 use Rattle.policy.specs.declared.Reply.the-variants.{Written}
-use Rattle.policy.proofs.SuitLaws.{Known, isakmp, ah-of, esp-of, known-of, chosenIn, taken, Pair, shape}
+use Rattle.policy.proofs.SuitLaws.{Known, isakmp, ah-of, esp-of, known-of, chosenIn, taken, shape}
 use Rattle.policy.proofs.ChoiceLaws.{Chose, chose-says, sa-in-front}
-use Rattle.policy.proofs.ReplyLaws.{Answers, Repeats, choice-repeats, choice-short, choice-written, sa-lies, sa-long, sa-begins}
+use Rattle.policy.proofs.ReplyLaws.{Repeats, choice-repeats, choice-short, choice-written, sa-lies, sa-long, sa-begins}
 
 -- ---- what is promised
 
@@ -75,8 +75,9 @@ pub record Around (exchange : ℕ) (payload h : List ℕ) : Type 0 where
 unfoldable pub headerFor : List ℕ → ℕ → List ℕ
 headerFor m size = take 16 m ++ (1 ∷ getD m 17 0 ∷ getD m 18 0 ∷ 0 ∷ (take 4 (drop 20 m) ++ bytesOf 4 size))
 
--- what the reply to a choice is, in the buffer b after it, and that it reads back
-pub record Replied (exchange count ah esp : ℕ) (m : List ℕ) (number : ProposalNumber) (transforms : Transforms) (buffer : List ℕ) (r : Reply × List ℕ) : Type 0 where
+-- r, what is answered to a choice and the buffer after it: the buffer begins with an SA payload that reads back under every such header, and is
+-- else as it was
+pub record TheReply (exchange count ah esp : ℕ) (m : List ℕ) (number : ProposalNumber) (transforms : Transforms) (buffer : List ℕ) (r : Reply × List ℕ) : Type 0 where
   pub payload : List ℕ
   pub fits : length payload ≤ 2048
   pub answered : r .0 ≡ Written (length payload)
@@ -85,6 +86,7 @@ pub record Replied (exchange count ah esp : ℕ) (m : List ℕ) (number : Propos
   pub k : ℕ
   pub offered : k < setCount (saFrom count 0 m)
   pub chosen-set : proposalNumber (proposal 0 (set k (saFrom count 0 m))) ≡ number
+  pub a-header : Around exchange payload (headerFor m (28 + length payload))
   pub reads-back : (h : List ℕ) → Around exchange payload h → ReadsBack exchange ah esp number transforms (set k (saFrom count 0 m)) (h ++ payload)
 
 -- ---- proofs
@@ -134,7 +136,111 @@ alike-lawful m n a h =
     let id = passed (messageIdWrong m) 9 _ (λ z. omega arith) (cookie .1) in
     rw (a .right, a .cookies, a .cookies-too, a .some, a .version, a .same, a .flag, a .id, major .0, minor .0, past .0, known .0, cookie .0, id .0)
 
--- the message around a payload, whose body reads
+module _ (m payload : List ℕ) (long : 28 ≤ length m) (few : length payload ≤ 8164) where
+  abbrev size : ℕ
+  size = 28 + length payload
+
+  abbrev made : List ℕ
+  made = headerFor m size ++ payload
+
+  abbrev fields : List ℕ
+  fields = 1 ∷ getD m 17 0 ∷ getD m 18 0 ∷ 0 ∷ []
+
+  abbrev last : List ℕ
+  last = (take 4 (drop 20 m) ++ bytesOf 4 size) ++ payload
+
+  cookie-long : length (take 8 m) ≡ 8
+  cookie-long = length-take-le 8 m (omega arith)
+
+  cookie-too-long : length (take 8 (drop 8 m)) ≡ 8
+  cookie-too-long = length-take-le 8 (drop 8 m) (omega (arith, length-drop 8 m))
+
+  id-long : length (take 4 (drop 20 m)) ≡ 4
+  id-long = length-take-le 4 (drop 20 m) (omega (arith, length-drop 20 m))
+
+  made-is : made ≡ take 8 m ++ (take 8 (drop 8 m) ++ (fields ++ last))
+  unfolding headerFor
+  made-is =
+      append-assoc (take 16 m) _ payload ∙ ap (λ (l : List ℕ). l ++ (fields ++ last)) (take-add 8 8 m)
+      ∙ append-assoc (take 8 m) (take 8 (drop 8 m)) (fields ++ last)
+
+  after-cookie : drop 8 made ≡ take 8 (drop 8 m) ++ (fields ++ last)
+  after-cookie = ap (drop 8) made-is ∙ drop-at (take 8 m) _ 8 cookie-long
+
+  after-cookies : drop 16 made ≡ fields ++ last
+  after-cookies = sym (drop-drop 8 8 made) ∙ ap (drop 8) after-cookie ∙ drop-at (take 8 (drop 8 m)) (fields ++ last) 8 cookie-too-long
+
+  field : (k : ℕ) → getD made (16 + k) 0 ≡ getD (fields ++ last) k 0
+  field k = sym (getD-drop 16 made k 0) ∙ ap (λ (l : List ℕ). getD l k 0) after-cookies
+
+  number-in-last : (k : ℕ) → numberAt 4 made (16 + (4 + k)) ≡ numberAt 4 last k
+  number-in-last k = sym (number-drop 4 16 made (4 + k)) ∙ ap (λ (l : List ℕ). numberAt 4 l (4 + k)) after-cookies ∙ number-append-add 4 fields last k
+
+  made-id : numberAt 4 made 20 ≡ numberAt 4 m 20
+  made-id =
+      number-in-last 0
+      ∙ number-append 4 (take 4 (drop 20 m) ++ bytesOf 4 size) payload 0 (omega (arith, id-long, length-append (take 4 (drop 20 m)) (bytesOf 4 size)))
+      ∙ number-append 4 (take 4 (drop 20 m)) (bytesOf 4 size) 0 (omega (arith, id-long)) ∙ number-take 4 4 (drop 20 m) 0 (omega arith) ∙ number-drop 4 20 m 0
+
+  made-size : numberAt 4 made 24 ≡ size
+  made-size =
+      number-in-last 4
+      ∙ number-append 4 (take 4 (drop 20 m) ++ bytesOf 4 size) payload 4 (omega (arith, id-long, length-bytesOf 4 size, length-append (take 4 (drop 20 m)) (bytesOf 4 size)))
+      ∙ ap (λ (k : ℕ). numberAt 4 (take 4 (drop 20 m) ++ bytesOf 4 size) k) (omega (arith, id-long))
+      ∙ number-append-add 4 (take 4 (drop 20 m)) (bytesOf 4 size) 0 ∙ number-bytesOf 4 size (omega arith)
+
+  header-long : length (headerFor m size) ≡ 28
+  unfolding headerFor
+  header-long =
+      omega (
+        arith,
+        length-append (take 16 m) (fields ++ (take 4 (drop 20 m) ++ bytesOf 4 size)),
+        length-take-le 16 m (omega arith),
+        length-append (take 4 (drop 20 m)) (bytesOf 4 size),
+        id-long,
+        length-bytesOf 4 size,
+      )
+
+  made-long : length made ≡ size
+  made-long = length-append (headerFor m size) payload ∙ omega (arith, header-long)
+
+  made-right : lengthWrong made ≡ false
+  unfolding lengthWrong
+  made-right = rw (made-size, made-long, le-ltb size 28 (omega arith), le-ltb 8192 size (omega arith), eq-eqb size size refl)
+
+  alike : Alike m made
+  alike = record {
+    cookies = ap (take 8) made-is ∙ take-at (take 8 m) _ 8 cookie-long;
+    cookies-too = ap (take 8) after-cookie ∙ take-at (take 8 (drop 8 m)) (fields ++ last) 8 cookie-too-long;
+    some = field 0;
+    version = field 1;
+    same = field 2;
+    flag = field 3;
+    id = made-id;
+    right = made-right;
+  }
+
+  in-header : (k : ℕ) → k < 28 → getD (headerFor m size) k 0 ≡ getD made k 0
+  in-header k h = sym (List·getD-append (headerFor m size) payload 0 k (omega (arith, header-long)))
+
+  around : (exchange count : ℕ) → message m ≡ Read exchange count → Around exchange payload (headerFor m size)
+  around exchange count readable =
+      let r = read-as m exchange count readable in
+      record {
+        header = header-long;
+        lawful = alike-lawful m made alike (reading-header m (r .found) (r .is));
+        an-sa = in-header 16 (omega arith) ∙ field 0;
+        same-exchange = in-header 18 (omega arith) ∙ field 2 ∙ r .same-exchange;
+        plain = in-header 19 (omega arith) ∙ field 3;
+      }
+
+readable-long : (m : List ℕ) (exchange count : ℕ) → message m ≡ Read exchange count → 28 ≤ length m
+readable-long m exchange count readable =
+    let r = read-as m exchange count readable in
+    laws.header-long m (reading-header m (r .found) (r .is))
+
+-- ---- the message around a payload, whose body reads
+
 module _ (exchange : ℕ) (payload h : List ℕ) (a : Around exchange payload h) where
   behind : drop 28 (h ++ payload) ≡ payload
   behind = drop-at h payload 28 (a .header)
@@ -203,10 +309,11 @@ module _ (exchange count : ℕ) (book m : List ℕ) (number : ProposalNumber) (l
 -- every choice is answered by a reply that reads back: from a message that reads, a buffer with room and own SPIs that may be used
 pub reply-reads-back : (book m : List ℕ) (exchange count ah esp : ℕ) (number : ProposalNumber) (line : LineNumber) (transforms : Transforms) (buffer : List ℕ) →
     message m ≡ Read exchange count → choice book m ≡ Chosen number line transforms → 2048 ≤ length buffer → ah < 4294967296 → esp < 4294967296 →
-    spisLow ah esp transforms (setNumbered number (saFrom 32 0 m)) ≡ false →
-    Replied exchange count ah esp m number transforms buffer (replied book m ah esp buffer)
-reply-reads-back book m exchange count ah esp number line transforms buffer readable chosen room small-ah small-esp low =
+    spisLow ah esp transforms (setNumbered number (saFrom count 0 m)) ≡ false →
+    TheReply exchange count ah esp m number transforms buffer (replied book m ah esp buffer)
+reply-reads-back book m exchange count ah esp number line transforms buffer readable chosen room small-ah small-esp high =
     let c = chose-says exchange count book m readable number line transforms chosen in
+    let low : spisLow ah esp transforms (setNumbered number (saFrom 32 0 m)) ≡ false = rw (c .same-sa) high in
     let bytes : List ℕ = saOf 0 (setReply ah esp transforms (setNumbered number (saFrom 32 0 m))) in
     let few : length bytes ≤ 148 = short exchange count book m number line transforms c ah esp small-ah small-esp low in
     rw (choice-written book m buffer ah esp number line transforms chosen room low) (record {
@@ -218,5 +325,6 @@ reply-reads-back book m exchange count ah esp number line transforms buffer read
       k = c .k;
       offered = c .a-set;
       chosen-set = c .its-number;
+      a-header = around m bytes (readable-long m exchange count readable) (omega arith) exchange count readable;
       reads-back = reads-back exchange count book m number line transforms c ah esp small-ah small-esp low;
     })

@@ -2,18 +2,16 @@
 -- of a proposal's transforms, rise.
 use Prim.Native.Nat.{ℕ, zero, suc, _+_, _≤_, _<_}
 use mathlib.Core.Path.{_≡_, refl, sym, ap, _∙_}
-use mathlib.Core.List.{List, [], _∷_, _++_, append-nil, flatten}
+use mathlib.Core.List.{List, [], _∷_, _++_, flatten}
 use native.Mathlib.Omega.{arith}
 use lib.ListN.{length, getD, take, drop, length-append, List·getD-append, take-append-drop}
-use lib.Dec.{eqb}
 use borrow.Author.Tests.{eq-eqb, ne-eqb}
 use Rattle.wire.specs.Wire.{numberAt}
-use Rattle.wire.specs.Tests.{if_then_else_}
 use Rattle.offer.specs.Transforms.{transformsCode}
 use Rattle.offer.specs.Proposals.{transformBytes, offerCode}
 use Rattle.offer.proofs.Laws.{Item, Rising, end, on, LawfulTransform, first-transform, after-transform}
 use Rattle.sets.specs.Parts.{skip, parts, firstItem, afterItem, setEnd, firstSet, afterSet, numbered, set, setCount, setNumbered, proposal, proposalCount, proposalNumber, transformCount, transform, transformNumbered, transformNumber}
-use Rattle.sets.proofs.Laws.{first-item, after-item, Same, same-end, same-on, Sets, sets-end, sets-on, Parted, parted, flatten-some, alone-first, alone-after}
+use Rattle.sets.proofs.Laws.{first-item, after-item, Same, same-end, same-on, Sets, sets-end, sets-on, parted, flatten-some, alone-first, alone-after}
 
 -- ---- any parts, one behind the other
 
