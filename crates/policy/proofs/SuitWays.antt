@@ -2,7 +2,7 @@
 use Prim.Native.Nat.{ℕ, zero, suc, _+_, _-_}
 use mathlib.Core.Path.{_≡_, refl, sym, _∙_}
 use mathlib.Core.List.{List}
-use mathlib.Core.Bool.{Bool, true, false, not, _&&_, _||_}
+use mathlib.Core.Bool.{Bool, true, false, not, _&&_, _||_, and-false}
 use native.Mathlib.Omega.{arith}
 use lib.Dec.{eqb, leb}
 use borrow.Author.Tests.{eq-eqb, ne-eqb, le-leb}
@@ -30,24 +30,24 @@ module _ (protocols mode seconds protocol : ℕ) (t attributes : List ℕ) (id w
   unfolding quickSuits
   quick-other h = rw (← ei, ← ew, ne-eqb id wanted h)
 
-  module _ (same : id ≡ wanted) (a : Bool) (em : a ≡ valueIs 4 mode attributes) where
-    pub quick-mode : not a ≡ true → false ≡ quickSuits protocols mode seconds protocol t
+  module _ (same : id ≡ wanted) (l : Bool) (el : l ≡ lifeWithin 2 seconds attributes) where
+    pub quick-life : not l ≡ true → false ≡ quickSuits protocols mode seconds protocol t
     unfolding quickSuits
-    quick-mode h = rw (← ei, ← ew, eq-eqb id wanted same, ← ea, ← em, was-false a h)
+    quick-life h = rw (← ea, ← el, was-false l h, and-false)
 
-    module _ (in-mode : not a ≡ false) (b : Bool) (eb : b ≡ valueIs 1 1 attributes) where
-      pub quick-unit : not b ≡ true → false ≡ quickSuits protocols mode seconds protocol t
+    module _ (lives : not l ≡ false) (a : Bool) (em : a ≡ valueIs 4 mode attributes) where
+      pub quick-mode : not a ≡ true → false ≡ quickSuits protocols mode seconds protocol t
       unfolding quickSuits
-      quick-unit h = rw (← ei, ← ew, eq-eqb id wanted same, ← ea, ← em, was-true a in-mode, ← eb, was-false b h)
+      quick-mode h = rw (← ei, ← ew, eq-eqb id wanted same, ← ea, ← em, was-false a h)
 
-      module _ (in-seconds : not b ≡ false) (l : Bool) (el : l ≡ lifeWithin 2 seconds attributes) where
-        pub quick-life : not l ≡ true → false ≡ quickSuits protocols mode seconds protocol t
+      module _ (in-mode : not a ≡ false) (b : Bool) (eb : b ≡ valueIs 1 1 attributes) where
+        pub quick-unit : not b ≡ true → false ≡ quickSuits protocols mode seconds protocol t
         unfolding quickSuits
-        quick-life h = rw (← ei, ← ew, eq-eqb id wanted same, ← ea, ← em, was-true a in-mode, ← eb, was-true b in-seconds, ← el, was-false l h)
+        quick-unit h = rw (← ei, ← ew, eq-eqb id wanted same, ← ea, ← em, was-true a in-mode, ← eb, was-false b h)
 
-        pub quick-rest : not l ≡ false → (r : Bool) → r ≡ quickIntegrity protocols protocol attributes → r ≡ quickSuits protocols mode seconds protocol t
+        pub quick-rest : not b ≡ false → (r : Bool) → r ≡ quickIntegrity protocols protocol attributes → r ≡ quickSuits protocols mode seconds protocol t
         unfolding quickSuits
-        quick-rest h r e = rw (← ei, ← ew, eq-eqb id wanted same, ← ea, ← em, was-true a in-mode, ← eb, was-true b in-seconds, ← el, was-true l h) e
+        quick-rest h r e = rw (← ei, ← ew, eq-eqb id wanted same, ← ea, ← em, was-true a in-mode, ← eb, was-true b h, ← el, was-true l lives) e
 
 module _ (exchange i : ℕ) (book p : List ℕ) (k : ℕ) (t : List ℕ) (r : Bool) (et : t ≡ transform k p) where
   pub main-transform : exchange ≡ 2 → (seconds : ℕ) → seconds ≡ mainSeconds i book → r ≡ mainSuits seconds t → r ≡ transformSuits exchange i book p k

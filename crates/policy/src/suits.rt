@@ -81,13 +81,14 @@ fn quick_suits(protocols: u8, mode: u8, seconds: u32, protocol: u8, t: &[u8]) ->
     if transform_id(t) != quick_id(protocol) {
         return false;
     }
+    // Lines differ most in their seconds, so the life is asked first.
+    if !life_within(2, seconds, attributes) {
+        return false;
+    }
     if !value_is(4, mode as u32, attributes) {
         return false;
     }
     if !value_is(1, 1, attributes) {
-        return false;
-    }
-    if !life_within(2, seconds, attributes) {
         return false;
     }
     quick_integrity(protocols, protocol, attributes)
