@@ -56,9 +56,9 @@ fn core(book: &[u8], message: &[u8]) -> u64 {
 /// The choice in the one number that the core answers with (crates/exports/specs/Exports.antt).
 fn second(book: &[u8], message: &[u8]) -> u64 {
     match policy::choose(book, message) {
-        Ok(Choice { set, line, transforms }) => {
-            let [first, last] = [0, 1].map(|place| transforms.get(place).copied().unwrap_or(0));
-            u64::from_be_bytes([0, 0, 0, transforms.len() as u8, set, line as u8, first, last])
+        Ok(Choice { set, line, taken }) => {
+            let [first, last] = [0, 1].map(|place| taken.get(place).map_or(0, |taken| taken.transform.number));
+            u64::from_be_bytes([0, 0, 0, taken.len() as u8, set, line as u8, first, last])
         }
         Err(number) => number.into(),
     }
