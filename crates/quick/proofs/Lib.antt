@@ -1,2 +1,3 @@
 mod ReadingWays
 mod WritingWays
+mod EndWays

@@ -1,5 +1,9 @@
 // The two ends of quick mode: fresh, begin, deliver, tick, and the nonce of a message.
+pub mod begin;
+pub mod deliver;
+pub mod fresh;
 pub mod reading;
+pub mod tick;
 mod writing;
 
 use policy::Transforms;

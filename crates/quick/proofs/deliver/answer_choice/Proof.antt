@@ -1,0 +1,18 @@
+use Rattle.quick.proofs.EndWays.{choice-refused, choice-made}
+use borrow.Author.Needs.{needs}
+use Rattle.quick.proofs.deliver.answer_choice.Statement.{statement}
+use Rattle.quick.proofs.deliver.answer_choice.Tie as tie
+
+pub answer-choice-spec : {M : Type 1} → statement M
+answer-choice-spec =
+    tie.close
+    (tie.spec
+    (λ c. search needs)
+    (λ c κs. search needs)
+    (λ c. search needs)
+    (λ c κs. search needs)
+    (λ c. search choice-refused)
+    (λ c. search needs)
+    (λ c. search needs)
+    (λ c. search needs)
+    (λ c. search choice-made))

@@ -1,0 +1,27 @@
+use Rattle.quick.proofs.EndWays.{deliver-refused, deliver-initiator, deliver-responder, delivery-fits}
+use borrow.Author.Needs.{needs}
+use Rattle.quick.proofs.deliver.deliver.Statement.{statement}
+use Rattle.quick.proofs.deliver.deliver.Tie as tie
+
+pub deliver-spec : {M : Type 1} → statement M
+deliver-spec =
+    tie.close
+    (tie.spec
+    (λ c κs. search needs)
+    (λ c κs. search needs)
+    (λ c κs. search needs)
+    (λ c. search needs)
+    (λ c. search needs)
+    (λ c. search needs)
+    (λ c. search deliver-refused)
+    (λ c κs. search needs)
+    (λ c κs. delivery-fits _ _ _ _ _ (c .before .before .before .before .before .before .before .delivery-code .ensures) (c .before .before .before .before .before .before .if1 .left))
+    (λ c. search needs)
+    (λ c. search needs)
+    (λ c. search needs)
+    (λ c. search deliver-initiator)
+    (λ c κs. delivery-fits _ _ _ _ _ (c .before .before .before .before .before .before .before .delivery-code .ensures) (c .before .before .before .before .before .before .if1 .left))
+    (λ c. search needs)
+    (λ c. search needs)
+    (λ c. search needs)
+    (λ c. search deliver-responder))

@@ -1,0 +1,19 @@
+use Rattle.quick.proofs.EndWays.{opened-three}
+use borrow.Author.Needs.{needs}
+use Rattle.quick.proofs.deliver.open.Statement.{statement}
+use Rattle.quick.proofs.deliver.open.Tie as tie
+
+pub open-spec : {M : Type 1} → statement M
+open-spec =
+    tie.close
+    (tie.spec
+    (λ c κs. search needs)
+    (λ c κs. search needs)
+    (λ c κs. search needs)
+    (λ c κs. search needs)
+    (λ c κs. search needs)
+    (λ c. search needs)
+    (λ c. search needs)
+    (λ c. search needs)
+    (λ c. search needs)
+    (λ c. search opened-three))

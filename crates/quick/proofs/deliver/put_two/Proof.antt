@@ -1,0 +1,16 @@
+use native.Mathlib.Omega.{arith}
+use Rattle.quick.proofs.EndWays.{two-written, identity-within}
+use borrow.Author.Needs.{needs}
+use Rattle.quick.proofs.deliver.put_two.Statement.{statement}
+use Rattle.quick.proofs.deliver.put_two.Tie as tie
+
+pub put-two-spec : {M : Type 1} → statement M
+put-two-spec =
+    tie.close
+    (tie.spec
+    (λ c κs. search needs)
+    (λ c κs. search needs)
+    (λ c κs. search needs)
+    (λ c κs. (omega arith, search identity-within, search identity-within))
+    (λ c. search needs)
+    (λ c. search two-written))

@@ -1,0 +1,23 @@
+use Rattle.quick.proofs.EndWays.{two-other, two-refused, two-opened}
+use borrow.Author.Needs.{needs}
+use Rattle.quick.proofs.deliver.take_two.Statement.{statement}
+use Rattle.quick.proofs.deliver.take_two.Tie as tie
+
+pub take-two-spec : {M : Type 1} → statement M
+take-two-spec =
+    tie.close
+    (tie.spec
+    (λ c κs. search needs)
+    (λ c κs. search needs)
+    (λ c κs. search needs)
+    (λ c. search two-other)
+    (λ c κs. search needs)
+    (λ c κs. search needs)
+    (λ c κs. search needs)
+    (λ c. search needs)
+    (λ c. search two-refused)
+    (λ c κs. search needs)
+    (λ c. search needs)
+    (λ c. search needs)
+    (λ c. search needs)
+    (λ c. search two-opened))

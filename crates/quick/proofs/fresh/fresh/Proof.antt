@@ -1,0 +1,17 @@
+use Rattle.quick.proofs.EndWays.{none-fits, book-fits, nonce-fits, fresh-made, fresh-refused}
+use borrow.Author.Needs.{needs}
+use Rattle.quick.proofs.fresh.fresh.Statement.{statement}
+use Rattle.quick.proofs.fresh.fresh.Tie as tie
+
+pub fresh-spec : {M : Type 1} → statement M
+fresh-spec =
+    tie.close
+    (tie.spec
+    (λ c κs. search needs)
+    (λ c κs. search needs)
+    (λ c κs. (search book-fits, search nonce-fits))
+    (λ c. search fresh-made)
+    (λ c κs. search needs)
+    (λ c κs. search needs)
+    (λ c κs. (search none-fits, search none-fits))
+    (λ c. search fresh-refused))

@@ -1,0 +1,320 @@
+// A delivery: the checks, then what each end does in each state.
+use crate::Agreed;
+use crate::End;
+use crate::Own;
+use crate::Progress;
+use crate::Proposals;
+use crate::State;
+use crate::StepAnswer;
+use crate::Stepped;
+use crate::reading::agreed_two;
+use crate::reading::alike;
+use crate::reading::is_initiator;
+use crate::reading::is_longer;
+use crate::reading::own_spis;
+use crate::reading::read_code;
+use crate::reading::shape_of;
+use crate::reading::spis_of;
+use crate::reading::taken_code;
+use crate::tick::is_given_up;
+use crate::tick::kept;
+use crate::tick::kept_size;
+use crate::tick::small;
+use crate::tick::with_state;
+use crate::writing::put_longer;
+use crate::writing::put_three;
+use policy::Choice;
+use policy::Transforms;
+use policy::choose::body_at;
+use policy::choose::choose_from;
+use sets::ProposalNumber;
+use sets::set_numbered;
+use wire::be32;
+use wire::front;
+use wire::put_bytes;
+ghost use mathlib.Core.Path.{_≡_};
+ghost use Prim.Native.Nat.{_≤_};
+ghost use lib.ListN.{length};
+ghost use Rattle.wire.specs.Wire.{numberAt, put};
+ghost use Rattle.quick.specs.declared.StepAnswer.the-variants.{Refused};
+ghost use Rattle.quick.specs.declared.State.the-variants.{Idle, Sent, Half};
+ghost use Rattle.sets.specs.Parts.{setNumbered};
+ghost use Rattle.policy.specs.Choice.{bodyAt};
+ghost use Rattle.quick.specs.Messages.{messageTwo};
+ghost use Rattle.quick.specs.Checks.{spisOf, ownSpis};
+ghost use Rattle.quick.specs.Ends.{After, deliveryCode, opened, repeated, atInitiator, identityAt, halfway, answered, atResponder, delivered};
+
+fn delivery_code(end: End, holds: bool, m: &[u8], tight: bool) -> u16
+    ensures { λ r. ⌜ r ≡ deliveryCode end holds (now (m .entry)) tight ⌝ }
+{
+    let own = end.own;
+    let progress = end.progress;
+    let state = progress.state;
+    if tight {
+        return 8192;
+    }
+    if !holds {
+        return 23;
+    }
+    if is_given_up(state) {
+        return 8196;
+    }
+    read_code(own, state, progress.id, m, message::read(m))
+}
+
+fn refuse(end: End, number: u16) -> Stepped
+    ensures { λ r. ⌜ r ≡ record { end = end; answer = Refused number } ⌝ }
+{
+    Stepped {
+        end,
+        answer: StepAnswer::Refused(number),
+    }
+}
+
+// Sends the kept message again.
+fn repeat(end: End, sent: &[u8], output: &mut [u8]) -> Stepped
+    ensures { λ r. ⌜ repeated end (now (sent .entry)) (now (output .entry)) ≡ (r, now (output .exit)) ⌝ }
+{
+    let progress = end.progress;
+    put_bytes(output, 0, kept(progress.sentsize, sent));
+    Stepped {
+        end,
+        answer: StepAnswer::Send(kept_size(progress.sentsize)),
+    }
+}
+
+// Message 2 was taken: the initiator opens, and writes message 3.
+fn open(end: End, m: &[u8], sent: &mut [u8], got: &mut [u8], output: &mut [u8]) -> Stepped
+    requires { ⌜ length (now m) ≤ 2048 ⌝ }
+    ensures { λ r. ⌜ opened end (now (m .entry)) (now (sent .entry)) (now (got .entry)) (now (output .entry)) ≡ record { step = r; sent = now (sent .exit); got = now (got .exit); output = now (output .exit) } ⌝ }
+{
+    let own = end.own;
+    let progress = end.progress;
+    let agreed = agreed_two(kept(progress.sentsize, sent), m);
+    put_bytes(got, 0, m);
+    put_three(sent, own, progress.id);
+    let size = put_three(output, own, progress.id);
+    Stepped {
+        end: End {
+            own,
+            progress: Progress {
+                state: State::Open,
+                sends: progress.sends,
+                id: progress.id,
+                sentsize: size,
+                gotsize: m.len() as u16,
+                agreed,
+            },
+        },
+        answer: StepAnswer::Send(size),
+    }
+}
+
+// Message 2 at an initiator that sent message 1.
+fn take_two(end: End, m: &[u8], sent: &mut [u8], got: &mut [u8], output: &mut [u8]) -> Stepped
+    requires { ⌜ length (now m) ≤ 2048 ⌝ }
+    ensures { λ r. ⌜ atInitiator end (now (m .entry)) (now (sent .entry)) (now (got .entry)) (now (output .entry)) Sent ≡ record { step = r; sent = now (sent .exit); got = now (got .exit); output = now (output .exit) } ⌝ }
+{
+    let progress = end.progress;
+    if !is_longer(shape_of(m)) {
+        return refuse(end, 8195);
+    }
+    let code = taken_code(kept(progress.sentsize, sent), m);
+    if code != 0 {
+        return refuse(end, code);
+    }
+    open(end, m, sent, got, output)
+}
+
+fn at_initiator(end: End, m: &[u8], sent: &mut [u8], got: &mut [u8], output: &mut [u8]) -> Stepped
+    requires { ⌜ length (now m) ≤ 2048 ⌝ }
+    ensures { λ r. ⌜ atInitiator end (now (m .entry)) (now (sent .entry)) (now (got .entry)) (now (output .entry)) (end .progress .state) ≡ record { step = r; sent = now (sent .exit); got = now (got .exit); output = now (output .exit) } ⌝ }
+{
+    let progress = end.progress;
+    let state = progress.state;
+    match state {
+        State::Sent => take_two(end, m, sent, got, output),
+        State::Open => {
+            if alike(m, kept(progress.gotsize, got)) {
+                return repeat(end, sent, output);
+            }
+            refuse(end, 8195)
+        }
+        State::Idle => refuse(end, 8195),
+        State::Half => refuse(end, 8195),
+        State::GivenUp => refuse(end, 8195),
+    }
+}
+
+// The identities of a message, no bytes where it has none.
+fn identity_at(k: u8, m: &[u8]) -> &[u8]
+    ensures { λ r. ⌜ now r ≡ identityAt k (now (m .entry)) ⌝ }
+{
+    if shape_of(m) == 5 {
+        return body_at(k, m);
+    }
+    front(m, 0)
+}
+
+// What message 1 agrees on once a set was chosen.
+fn agreed_one(own: Own, number: ProposalNumber, transforms: Transforms, set: &[u8]) -> Agreed
+    ensures { λ r. ⌜ r ≡ record { set = number; transforms = transforms; initiator = spisOf (now (set .entry)); responder = ownSpis (own .ah) (own .esp) (now (set .entry)) } ⌝ }
+{
+    let initiator = spis_of(set);
+    let responder = own_spis(own.ah, own.esp, set);
+    Agreed {
+        set: number,
+        transforms,
+        initiator,
+        responder,
+    }
+}
+
+// Writes message 2, the identities of message 1 repeated; says how long it is.
+fn put_two(buffer: &mut [u8], own: Own, transforms: Transforms, set: &[u8], m: &[u8]) -> u16
+    requires { ⌜ (length (now set) ≤ 2048) × (length (now m) ≤ 2048) ⌝ }
+    ensures { λ r. ⌜ put (now (buffer .entry)) 0 (messageTwo own (numberAt 4 (now (m .entry)) 20) transforms (now (set .entry)) (identityAt 3 (now (m .entry))) (identityAt 4 (now (m .entry)))) ≡ (r, now (buffer .exit)) ⌝ }
+{
+    let id = be32(m, 20);
+    let first = identity_at(3, m);
+    let second = identity_at(4, m);
+    let reply = Proposals::Reply(transforms);
+    put_longer(buffer, own, id, reply, set, first, second)
+}
+
+// A set was chosen: the responder is Half, and writes message 2.
+fn be_half(
+    end: End,
+    m: &[u8],
+    number: ProposalNumber,
+    transforms: Transforms,
+    sent: &mut [u8],
+    got: &mut [u8],
+    output: &mut [u8],
+) -> Stepped
+    requires { ⌜ length (now m) ≤ 2048 ⌝ }
+    ensures { λ r. ⌜ halfway end (now (m .entry)) (now (sent .entry)) (now (got .entry)) (now (output .entry)) number transforms (setNumbered number (bodyAt 1 (now (m .entry)))) ≡ record { step = r; sent = now (sent .exit); got = now (got .exit); output = now (output .exit) } ⌝ }
+{
+    let own = end.own;
+    let gotsize = m.len() as u16;
+    let set = set_numbered(number, body_at(1, m));
+    let agreed = agreed_one(own, number, transforms, set);
+    put_bytes(got, 0, m);
+    put_two(sent, own, transforms, set, m);
+    let size = put_two(output, own, transforms, set, m);
+    Stepped {
+        end: End {
+            own,
+            progress: Progress {
+                state: State::Half,
+                sends: 1,
+                id: be32(m, 20),
+                sentsize: size,
+                gotsize,
+                agreed,
+            },
+        },
+        answer: StepAnswer::Send(size),
+    }
+}
+
+// Message 1 and the choice from its offer.
+fn answer_choice(
+    end: End,
+    m: &[u8],
+    choice: Choice,
+    sent: &mut [u8],
+    got: &mut [u8],
+    output: &mut [u8],
+) -> Stepped
+    requires { ⌜ length (now m) ≤ 2048 ⌝ }
+    ensures { λ r. ⌜ answered end (now (m .entry)) (now (sent .entry)) (now (got .entry)) (now (output .entry)) choice ≡ record { step = r; sent = now (sent .exit); got = now (got .exit); output = now (output .exit) } ⌝ }
+{
+    match choice {
+        Choice::Refused(number) => refuse(end, number),
+        Choice::Chosen(number, _, transforms) => {
+            be_half(end, m, number, transforms, sent, got, output)
+        }
+    }
+}
+
+// Message 1 at an Idle responder.
+fn answer_one(end: End, m: &[u8], sent: &mut [u8], got: &mut [u8], output: &mut [u8]) -> Stepped
+    requires { ⌜ length (now m) ≤ 2048 ⌝ }
+    ensures { λ r. ⌜ atResponder end (now (m .entry)) (now (sent .entry)) (now (got .entry)) (now (output .entry)) Idle ≡ record { step = r; sent = now (sent .exit); got = now (got .exit); output = now (output .exit) } ⌝ }
+{
+    if !is_longer(shape_of(m)) {
+        return refuse(end, 8195);
+    }
+    let own = end.own;
+    let book = front(&own.book, own.booksize as usize);
+    let choice = choose_from(32, book, body_at(1, m));
+    answer_choice(end, m, choice, sent, got, output)
+}
+
+// A message at a Half responder: message 1 again, or message 3.
+fn at_half(end: End, m: &[u8], sent: &[u8], got: &[u8], output: &mut [u8]) -> Stepped
+    ensures { λ r. ⌜ atResponder end (now (m .entry)) (now (sent .entry)) (now (got .entry)) (now (output .entry)) Half ≡ record { step = r; sent = now (sent .entry); got = now (got .entry); output = now (output .exit) } ⌝ }
+{
+    let own = end.own;
+    let progress = end.progress;
+    if alike(m, kept(progress.gotsize, got)) {
+        return repeat(end, sent, output);
+    }
+    if shape_of(m) == 1 {
+        return Stepped {
+            end: End {
+                own,
+                progress: with_state(State::Open, progress),
+            },
+            answer: StepAnswer::Nothing,
+        };
+    }
+    refuse(end, 8195)
+}
+
+fn at_responder(end: End, m: &[u8], sent: &mut [u8], got: &mut [u8], output: &mut [u8]) -> Stepped
+    requires { ⌜ length (now m) ≤ 2048 ⌝ }
+    ensures { λ r. ⌜ atResponder end (now (m .entry)) (now (sent .entry)) (now (got .entry)) (now (output .entry)) (end .progress .state) ≡ record { step = r; sent = now (sent .exit); got = now (got .exit); output = now (output .exit) } ⌝ }
+{
+    let progress = end.progress;
+    let state = progress.state;
+    match state {
+        State::Idle => answer_one(end, m, sent, got, output),
+        State::Half => at_half(end, m, sent, got, output),
+        State::Open => {
+            if alike(m, kept(progress.gotsize, got)) | (shape_of(m) == 1) {
+                return Stepped {
+                    end,
+                    answer: StepAnswer::Nothing,
+                };
+            }
+            refuse(end, 8195)
+        }
+        State::Sent => refuse(end, 8195),
+        State::GivenUp => refuse(end, 8195),
+    }
+}
+
+// A message arrives; holds says that its hash holds.
+pub fn deliver(
+    end: End,
+    holds: bool,
+    m: &[u8],
+    sent: &mut [u8],
+    got: &mut [u8],
+    output: &mut [u8],
+) -> Stepped
+    ensures { λ r. ⌜ delivered end holds (now (m .entry)) (now (sent .entry)) (now (got .entry)) (now (output .entry)) ≡ record { step = r; sent = now (sent .exit); got = now (got .exit); output = now (output .exit) } ⌝ }
+{
+    let code = delivery_code(end, holds, m, small(sent, got, output));
+    if code != 0 {
+        return refuse(end, code);
+    }
+    let own = end.own;
+    let role = own.role;
+    if is_initiator(role) {
+        return at_initiator(end, m, sent, got, output);
+    }
+    at_responder(end, m, sent, got, output)
+}

@@ -1,0 +1,141 @@
+// A tick: an end that waits sends its kept message again, up to four sends.
+use crate::End;
+use crate::Progress;
+use crate::State;
+use crate::StepAnswer;
+use crate::Stepped;
+use crate::reading::is_idle;
+use wire::front;
+use wire::put_bytes;
+ghost use mathlib.Core.Path.{_≡_};
+ghost use Prim.Native.Nat.{min, _<_};
+ghost use Rattle.quick.specs.Ends.{After, small, kept, isGivenUp, tickCode, withState, oneMore, isOpen, ticked};
+
+// Whether a lent buffer is under 2,048 bytes.
+pub(crate) fn small(sent: &[u8], got: &[u8], output: &[u8]) -> bool
+    ensures { λ r. ⌜ r ≡ small (now (sent .entry)) (now (got .entry)) (now (output .entry)) ⌝ }
+{
+    (sent.len() < 2048) | (got.len() < 2048) | (output.len() < 2048)
+}
+
+// How many bytes of a kept buffer are a message: no message is longer than 2,048 bytes.
+pub(crate) fn kept_size(size: u16) -> u16
+    ensures { λ r. ⌜ r ≡ min size 2048 ⌝ }
+{
+    if size < 2048 { size } else { 2048 }
+}
+
+// The message that a kept buffer holds.
+pub(crate) fn kept(size: u16, buffer: &[u8]) -> &[u8]
+    ensures { λ r. ⌜ now r ≡ kept size (now (buffer .entry)) ⌝ }
+{
+    front(buffer, kept_size(size) as usize)
+}
+
+pub(crate) fn is_given_up(state: State) -> bool
+    ensures { λ r. ⌜ r ≡ isGivenUp state ⌝ }
+{
+    match state {
+        State::GivenUp => true,
+        State::Idle => false,
+        State::Sent => false,
+        State::Half => false,
+        State::Open => false,
+    }
+}
+
+fn is_open(state: State) -> bool
+    ensures { λ r. ⌜ r ≡ isOpen state ⌝ }
+{
+    match state {
+        State::Open => true,
+        State::Idle => false,
+        State::Sent => false,
+        State::Half => false,
+        State::GivenUp => false,
+    }
+}
+
+fn tick_code(state: State, tight: bool) -> u16
+    ensures { λ r. ⌜ r ≡ tickCode state tight ⌝ }
+{
+    if tight {
+        return 8192;
+    }
+    if is_given_up(state) {
+        return 8196;
+    }
+    if is_idle(state) {
+        return 8195;
+    }
+    0
+}
+
+pub(crate) fn with_state(state: State, progress: Progress) -> Progress
+    ensures { λ r. ⌜ r ≡ withState state progress ⌝ }
+{
+    let agreed = progress.agreed;
+    Progress {
+        state,
+        sends: progress.sends,
+        id: progress.id,
+        sentsize: progress.sentsize,
+        gotsize: progress.gotsize,
+        agreed,
+    }
+}
+
+fn one_more(progress: Progress) -> Progress
+    requires { ⌜ progress .sends < 4 ⌝ }
+    ensures { λ r. ⌜ r ≡ oneMore progress ⌝ }
+{
+    let agreed = progress.agreed;
+    let state = progress.state;
+    Progress {
+        state,
+        sends: progress.sends + 1,
+        id: progress.id,
+        sentsize: progress.sentsize,
+        gotsize: progress.gotsize,
+        agreed,
+    }
+}
+
+// Time has passed. Only `output` is written to.
+pub fn tick(end: End, sent: &[u8], got: &[u8], output: &mut [u8]) -> Stepped
+    ensures { λ r. ⌜ ticked end (now (sent .entry)) (now (got .entry)) (now (output .entry)) ≡ record { step = r; sent = now (sent .entry); got = now (got .entry); output = now (output .exit) } ⌝ }
+{
+    let own = end.own;
+    let progress = end.progress;
+    let state = progress.state;
+    let code = tick_code(state, small(sent, got, output));
+    if code != 0 {
+        return Stepped {
+            end,
+            answer: StepAnswer::Refused(code),
+        };
+    }
+    if is_open(state) {
+        return Stepped {
+            end,
+            answer: StepAnswer::Nothing,
+        };
+    }
+    if progress.sends < 4 {
+        put_bytes(output, 0, kept(progress.sentsize, sent));
+        return Stepped {
+            end: End {
+                own,
+                progress: one_more(progress),
+            },
+            answer: StepAnswer::Send(kept_size(progress.sentsize)),
+        };
+    }
+    Stepped {
+        end: End {
+            own,
+            progress: with_state(State::GivenUp, progress),
+        },
+        answer: StepAnswer::Nothing,
+    }
+}
