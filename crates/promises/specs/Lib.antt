@@ -14,3 +14,4 @@ mod SequenceRuns
 mod SequenceKeys
 pub mod SequenceAnswers
 pub mod Sequence
+pub mod Quick

@@ -1,7 +1,7 @@
 -- A law for each way out of the functions of the two ends.
-use Prim.Native.Nat.{ℕ, zero, suc, min, _+_, _*_, _≤_, _<_}
+use Prim.Native.Nat.{ℕ, zero, suc, min, _+_, _≤_, _<_}
 use mathlib.Core.Path.{_≡_, refl, sym, ap, _∙_}
-use mathlib.Core.List.{List, [], _∷_}
+use mathlib.Core.List.{List, []}
 use mathlib.Core.Bool.{Bool, true, false, not, _||_, _&&_}
 use native.Mathlib.Omega.{arith}
 use lib.ListN.{length, getD, take, drop, length-take, length-drop}
@@ -10,14 +10,13 @@ use borrow.Author.Tests.{eq-eqb, ne-eqb, eqb-true, eqb-false, leb-true, ltb-fals
 use Rattle.wire.specs.Wire.{numberAt, paste, put}
 use Rattle.wire.specs.Tests.{if_then_else_}
 use Rattle.wire.proofs.Laws.{put-size}
-use Rattle.wire.proofs.Tests.{never, clash, both, by-test, passed}
+use Rattle.wire.proofs.Tests.{clash, both, by-test, passed}
 use Rattle.identity.specs.Identity.{identity, lawful, quickData}
 use Rattle.message.specs.Header.{headerCode, exchangeOf, flagsOf, firstPayload}
 use Rattle.message.specs.Payloads.{payloadCode, restCode}
 use Rattle.message.specs.Message.{Reading, refused, payloads, first, chain, reading, counted, message, payloadAt}
 use Rattle.message.specs.declared.Payload.{Payload}
 use Rattle.message.specs.declared.Message.{Message}
-use Rattle.message.specs.declared.Message.the-variants as messages
 use Rattle.sets.specs.Parts.{setEnd, firstSet, afterSet, numbered, setNumbered}
 use Rattle.sets.specs.declared.ProposalNumber.{ProposalNumber}
 use Rattle.policy.specs.Book.{mainCount, quickStart, quickCount, bookSize, bookInFront, mainLinesLawful, quickLinesLawful}
@@ -28,17 +27,15 @@ use Rattle.policy.specs.declared.Choice.{Choice}
 use Rattle.policy.specs.declared.Choice.the-variants as choices
 use Rattle.quick.specs.Messages.{bookOf, lines, longer, proposalsOf, messageOne, messageTwo, messageThree}
 use Rattle.quick.specs.Checks.{shape, isLonger, alike, cookiesWrong, isIdle, isInitiator, quickCode, readCode, shapeOf, takenCode, spisOf, ownSpis, agreedTwo}
-use Rattle.quick.specs.Ends.{After, freshCode, idle, ownOf, fresh, small, kept, isGivenUp, isOpen, tickCode, withState, oneMore, ticked, identitiesWrong, beginCode, begun, repeated, deliveryCode, identityAt, opened, atInitiator, halfway, answered, atResponder, delivered}
+use Rattle.quick.specs.Ends.{freshCode, idle, ownOf, fresh, small, kept, isGivenUp, isOpen, tickCode, withState, oneMore, ticked, identitiesWrong, beginCode, begun, repeated, deliveryCode, identityAt, opened, atInitiator, halfway, answered, atResponder, delivered}
 use Rattle.quick.specs.declared.Role.{Role}
 use Rattle.quick.specs.declared.State.{State}
 use Rattle.quick.specs.declared.State.the-variants.{Idle, Sent, Half, Open, GivenUp}
 use Rattle.quick.specs.declared.Own.{Own}
-use Rattle.quick.specs.declared.Spis.{Spis}
 use Rattle.quick.specs.declared.Agreed.{Agreed}
 use Rattle.quick.specs.declared.Progress.{Progress}
 use Rattle.quick.specs.declared.Proposals.the-variants.{Offer, Reply}
 use Rattle.quick.specs.declared.End.{End}
-use Rattle.quick.specs.declared.Made.{Made}
 use Rattle.quick.specs.declared.StepAnswer.the-variants.{Send, Nothing, Refused}
 use Rattle.quick.specs.declared.Stepped.{Stepped}
 

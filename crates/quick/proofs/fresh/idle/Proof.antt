@@ -1,4 +1,3 @@
-use borrow.Author.Needs.{needs}
 use Rattle.quick.specs.Ends.{idle}
 use Rattle.quick.proofs.fresh.idle.Statement.{statement}
 use Rattle.quick.proofs.fresh.idle.Tie as tie

@@ -1,4 +1,3 @@
-use borrow.Author.Needs.{needs}
 use Rattle.quick.specs.Ends.{small}
 use Rattle.quick.proofs.tick.small.Statement.{statement}
 use Rattle.quick.proofs.tick.small.Tie as tie

@@ -1,4 +1,3 @@
-use borrow.Author.Needs.{needs}
 use Rattle.quick.specs.Ends.{withState}
 use Rattle.quick.proofs.tick.with_state.Statement.{statement}
 use Rattle.quick.proofs.tick.with_state.Tie as tie

@@ -1,0 +1,90 @@
+-- Quick mode ends: a refusal changes neither the record nor a lent buffer, and no two answers of a step have the same number and values.
+use Prim.Native.Nat.{ℕ}
+use mathlib.Core.Path.{_≡_, refl, sym, ap, _∙_}
+use mathlib.Core.List.{List}
+use mathlib.Core.Bool.{Bool, true, false, not, _||_}
+use lib.ListN.{length, getD}
+use lib.Dec.{ltb, eqb}
+use Rattle.wire.specs.Tests.{if_then_else_}
+use Rattle.wire.specs.Answer.{Answer}
+use Rattle.wire.proofs.Tests.{never, by-test}
+use Rattle.policy.specs.declared.Choice.{Choice}
+use Rattle.policy.specs.declared.Choice.the-variants as choices
+use Rattle.quick.specs.Checks.{isLonger, alike, isInitiator, shapeOf, takenCode}
+use Rattle.quick.specs.Ends.{After, small, kept, refusing, beginCode, begun, tickCode, isOpen, ticked, deliveryCode, opened, atInitiator, halfway, answered, atResponder, delivered, answer}
+use Rattle.quick.specs.declared.End.{End}
+use Rattle.quick.specs.declared.State.{State}
+use Rattle.quick.specs.declared.State.the-variants.{Idle, Sent, Half, Open, GivenUp}
+use Rattle.quick.specs.declared.StepAnswer.{StepAnswer}
+use Rattle.quick.specs.declared.StepAnswer.the-variants.{Send, Nothing, Refused}
+
+module _ (end : End) (sent got output : List ℕ) where
+  -- what a call leaves: where it is a refusal, all is as it was
+  pub record Unchanged (after : After) : Type 0 where
+    pub as-it-was : (number : ℕ) → after .step .answer ≡ Refused number → after ≡ refusing end sent got output number
+
+  refuses : (number : ℕ) → Unchanged (refusing end sent got output number)
+  refuses number = record { as-it-was = λ n e. let same : number ≡ n = cc in ap (refusing end sent got output) same }
+
+  sends : (after : After) (size : ℕ) → after .step .answer ≡ Send size → Unchanged after
+  sends after size h = record { as-it-was = λ n e. never (cc) }
+
+  quiet : (after : After) → after .step .answer ≡ Nothing → Unchanged after
+  quiet after h = record { as-it-was = λ n e. never (cc) }
+
+  pub begin-refused : (id : ℕ) (first second : List ℕ) → Unchanged (begun end id first second sent got output)
+  unfolding begun
+  begin-refused id first second = by-test (eqb (beginCode end id first second (small sent got output)) 0) (λ e. rw e (sends _ _ refl)) (λ e. rw e (refuses _))
+
+  pub tick-refused : Unchanged (ticked end sent got output)
+  unfolding ticked
+  tick-refused =
+      by-test (not (eqb (tickCode (end .progress .state) (small sent got output)) 0)) (λ e. rw e (refuses _))
+      (λ e. by-test (isOpen (end .progress .state)) (λ f. rw (e, f) (quiet _ refl))
+      (λ f. by-test (ltb (end .progress .sends) 4) (λ g. rw (e, f, g) (sends _ _ refl)) (λ g. rw (e, f, g) (quiet _ refl))))
+
+  module _ (m : List ℕ) where
+    initiator-refused : (state : State) → Unchanged (atInitiator end m sent got output state)
+    unfolding atInitiator opened
+    initiator-refused Sent =
+        by-test (not (isLonger (shapeOf m))) (λ e. rw e (refuses _))
+        (λ e. by-test (not (eqb (takenCode (kept (end .progress .sentsize) sent) m) 0)) (λ f. rw (e, f) (refuses _)) (λ f. rw (e, f) (sends _ _ refl)))
+    initiator-refused Open = by-test (alike m (kept (end .progress .gotsize) got)) (λ e. rw e (sends _ _ refl)) (λ e. rw e (refuses _))
+    initiator-refused Idle = refuses _
+    initiator-refused Half = refuses _
+    initiator-refused GivenUp = refuses _
+
+    answered-refused : (choice : Choice) → Unchanged (answered end m sent got output choice)
+    unfolding answered halfway
+    answered-refused (choices.Refused number) = refuses _
+    answered-refused (choices.Chosen number line transforms) = sends _ _ refl
+
+    responder-refused : (state : State) → Unchanged (atResponder end m sent got output state)
+    unfolding atResponder
+    responder-refused Idle = by-test (not (isLonger (shapeOf m))) (λ e. rw e (refuses _)) (λ e. rw e (answered-refused _))
+    responder-refused Half =
+        by-test (alike m (kept (end .progress .gotsize) got)) (λ e. rw e (sends _ _ refl))
+        (λ e. by-test (eqb (shapeOf m) 1) (λ f. rw (e, f) (quiet _ refl)) (λ f. rw (e, f) (refuses _)))
+    responder-refused Open = by-test (alike m (kept (end .progress .gotsize) got) || eqb (shapeOf m) 1) (λ e. rw e (quiet _ refl)) (λ e. rw e (refuses _))
+    responder-refused Sent = refuses _
+    responder-refused GivenUp = refuses _
+
+    pub delivery-refused : (holds : Bool) → Unchanged (delivered end holds m sent got output)
+    unfolding delivered
+    delivery-refused holds =
+        by-test (not (eqb (deliveryCode end holds m (small sent got output)) 0)) (λ e. rw e (refuses _))
+        (λ e. by-test (isInitiator (end .own .role)) (λ f. rw (e, f) (initiator-refused (end .progress .state))) (λ f. rw (e, f) (responder-refused (end .progress .state))))
+
+-- ---- no two answers of a step have the same number and values
+
+abbrev meant : Answer → StepAnswer
+meant a = if eqb (length (a .values)) 0 then Refused (a .number) else if eqb (length (a .values)) 1 then Nothing else Send (getD (a .values) 1 0)
+
+meant-answer : (x : StepAnswer) → meant (answer x) ≡ x
+unfolding answer
+meant-answer (Send size) = refl
+meant-answer Nothing = refl
+meant-answer (Refused number) = refl
+
+pub step-own : (x y : StepAnswer) → answer x ≡ answer y → x ≡ y
+step-own x y h = sym (meant-answer x) ∙ ap meant h ∙ meant-answer y
