@@ -1,3 +1,4 @@
+pub mod Laws
 mod ReadingWays
 mod WritingWays
 mod EndWays
