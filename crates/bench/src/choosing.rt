@@ -1,6 +1,7 @@
 // `book BYTES` and `choose BOOK BYTES`: what a policy book holds, and what it chooses of a message.
 use crate::hex;
 use crate::hex::Decoded;
+use crate::hex::Parted;
 use crate::say;
 use crate::say::append;
 use crate::words;
@@ -26,10 +27,11 @@ pub(crate) fn book(line: &[u8], bytes: &mut [u8], out: &mut [u8], said: usize) -
 }
 
 pub(crate) fn choose(line: &[u8], bytes: &mut [u8], out: &mut [u8], said: usize) -> usize {
-    let Decoded::To(middle) = hex::decode(words::nth(line, 1), bytes, 0) else {
-        return say::bad_line(out, said);
-    };
-    let Decoded::To(end) = hex::decode(words::nth(line, 2), bytes, middle) else {
+    let Parted::At { middle, end } = hex::decode_two(
+        words::nth(line, 1),
+        words::nth(line, 2),
+        bytes,
+    ) else {
         return say::bad_line(out, said);
     };
     let both = front(bytes, end);
@@ -52,7 +54,7 @@ fn chosen(choice: Choice, out: &mut [u8], said: usize) -> usize {
     }
 }
 
-fn numbers(transforms: Transforms, out: &mut [u8], said: usize) -> usize {
+pub(crate) fn numbers(transforms: Transforms, out: &mut [u8], said: usize) -> usize {
     match transforms {
         Transforms::One(t) => say::number(out, said, t.0 as u64),
         Transforms::Two(t, u) => {

@@ -10,6 +10,12 @@ pub(crate) enum Decoded {
     Wrong,
 }
 
+pub(crate) enum Parted {
+    // The places behind the last byte of the first word and of the second.
+    At { middle: usize, end: usize },
+    Wrong,
+}
+
 // The value of a digit; 16 for any other byte.
 pub(crate) fn value(digit: u8) -> u8
     ensures decimal { λ r. ⌜ (48 ≤ digit → digit ≤ 57 → r ≡ digit - 48) ⌝ }
@@ -62,4 +68,15 @@ pub(crate) fn decode(word: &[u8], bytes: &mut [u8], at: usize) -> Decoded {
         i += 2;
     }
     Decoded::To(to)
+}
+
+// Puts the bytes of two words into the buffer, the second's behind the first's.
+pub(crate) fn decode_two(first: &[u8], second: &[u8], bytes: &mut [u8]) -> Parted {
+    let Decoded::To(middle) = decode(first, bytes, 0) else {
+        return Parted::Wrong;
+    };
+    let Decoded::To(end) = decode(second, bytes, middle) else {
+        return Parted::Wrong;
+    };
+    Parted::At { middle, end }
 }

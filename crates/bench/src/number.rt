@@ -1,4 +1,4 @@
-// A word that is a number: in decimal, or as the four bytes in hex of a destination or an SPI.
+// A word that is a number: in decimal, as the four bytes in hex of a destination or an SPI, or as the eight of a cookie.
 use crate::hex;
 use crate::hex::Decoded;
 use crate::hex::value;
@@ -7,6 +7,11 @@ use wire::byte;
 
 pub(crate) enum Number {
     Is(u32),
+    Wrong,
+}
+
+pub(crate) enum Cookie {
+    Is(u64),
     Wrong,
 }
 
@@ -42,5 +47,18 @@ pub(crate) fn four_bytes(word: &[u8]) -> Number {
         Number::Is(be32(&bytes, 0))
     } else {
         Number::Wrong
+    }
+}
+
+// Sixteen digits in hex, no fewer and no more.
+pub(crate) fn eight_bytes(word: &[u8]) -> Cookie {
+    let mut bytes = [0u8; 8];
+    let Decoded::To(end) = hex::decode(word, &mut bytes, 0) else {
+        return Cookie::Wrong;
+    };
+    if end == 8 {
+        Cookie::Is(be32(&bytes, 0) as u64 * 4294967296 + be32(&bytes, 4) as u64)
+    } else {
+        Cookie::Wrong
     }
 }

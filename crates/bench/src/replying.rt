@@ -1,6 +1,6 @@
 // `reply BOOK AH ESP ROOM BYTES`: the reply that a book makes to a message, with own SPIs, in a lent buffer of ROOM bytes.
 use crate::hex;
-use crate::hex::Decoded;
+use crate::hex::Parted;
 use crate::number;
 use crate::number::Number;
 use crate::say;
@@ -39,10 +39,11 @@ pub(crate) fn answer(line: &[u8], bytes: &mut [u8], out: &mut [u8], said: usize)
     let Given::As(own) = own_of(line) else {
         return say::bad_line(out, said);
     };
-    let Decoded::To(middle) = hex::decode(words::nth(line, 1), bytes, 0) else {
-        return say::bad_line(out, said);
-    };
-    let Decoded::To(end) = hex::decode(words::nth(line, 5), bytes, middle) else {
+    let Parted::At { middle, end } = hex::decode_two(
+        words::nth(line, 1),
+        words::nth(line, 5),
+        bytes,
+    ) else {
         return say::bad_line(out, said);
     };
     let both = front(bytes, end);

@@ -51,6 +51,15 @@ pub(crate) fn bytes(out: &mut [u8], said: usize, bytes: &[u8]) -> usize {
     said
 }
 
+// Puts bytes as a word of a line: `-` for no bytes.
+pub(crate) fn word(out: &mut [u8], said: usize, word: &[u8]) -> usize {
+    if word.len() == 0 {
+        append(out, said, b"-")
+    } else {
+        bytes(out, said, word)
+    }
+}
+
 pub(crate) fn refused(out: &mut [u8], said: usize, n: u16) -> usize {
     let said = append(out, said, b"refused");
     number(out, said, n as u64)

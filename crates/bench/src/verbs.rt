@@ -2,14 +2,19 @@
 use crate::State;
 use crate::choosing;
 use crate::element;
+use crate::ends::Kept;
+use crate::ends::Seats;
 use crate::identification;
 use crate::lent;
 use crate::lives;
+use crate::making;
 use crate::port;
 use crate::reading;
 use crate::replying;
 use crate::say;
 use crate::say::append;
+use crate::showing;
+use crate::stepping;
 use crate::words;
 use sequence::table::Table;
 use wire::byte;
@@ -22,6 +27,8 @@ const LONGEST: usize = 65535;
 pub(crate) fn answer(
     line: &[u8],
     lives: &mut Table,
+    sent: &mut Kept,
+    got: &mut Kept,
     bytes: &mut [u8],
     out: &mut [u8],
     state: State,
@@ -29,7 +36,7 @@ pub(crate) fn answer(
     if line.len() == 0 || byte(line, 0) == b'#' {
         return state;
     }
-    let mut state = by_verb(line, lives, bytes, out, state);
+    let mut state = by_verb(line, lives, sent, got, bytes, out, state);
     state.said = append(out, state.said, b"\n");
     state
 }
@@ -38,6 +45,8 @@ pub(crate) fn answer(
 fn by_verb(
     line: &[u8],
     lives: &mut Table,
+    sent: &mut Kept,
+    got: &mut Kept,
     bytes: &mut [u8],
     out: &mut [u8],
     mut state: State,
@@ -54,8 +63,61 @@ fn by_verb(
     if (words == 3) & equal(verb, b"lent") {
         return lent::step(line, out, state);
     }
-    state.said = reading_verbs(line, lives, bytes, out, state.said);
+    end_verbs(line, lives, sent, got, bytes, out, state)
+}
+
+// Lines that change a quick mode end.
+fn end_verbs(
+    line: &[u8],
+    lives: &mut Table,
+    sent: &mut Kept,
+    got: &mut Kept,
+    bytes: &mut [u8],
+    out: &mut [u8],
+    mut state: State,
+) -> State {
+    let words = words::count(line);
+    let verb = words::nth(line, 0);
+    if (words == 8) & equal(verb, b"fresh") {
+        return making::fresh(line, sent, got, bytes, out, state);
+    }
+    if (words == 5) & equal(verb, b"room") {
+        return making::room(line, out, state);
+    }
+    if (words == 4) & equal(verb, b"begin") {
+        return stepping::begin(line, sent, got, bytes, out, state);
+    }
+    if (words == 4) & equal(verb, b"deliver") {
+        return stepping::deliver(line, sent, got, bytes, out, state);
+    }
+    if (words == 2) & equal(verb, b"tick") {
+        return stepping::tick(line, sent, got, out, state);
+    }
+    let ends = state.ends;
+    state.said = showing_verbs(line, lives, sent, got, bytes, out, state.said, ends);
     state
+}
+
+// Lines that show what a quick mode end holds.
+fn showing_verbs(
+    line: &[u8],
+    lives: &mut Table,
+    sent: &mut Kept,
+    got: &mut Kept,
+    bytes: &mut [u8],
+    out: &mut [u8],
+    said: usize,
+    ends: Seats,
+) -> usize {
+    let words = words::count(line);
+    let verb = words::nth(line, 0);
+    if (words == 2) & equal(verb, b"state") {
+        return showing::state(line, ends, got, out, said);
+    }
+    if (words == 2) & equal(verb, b"kept") {
+        return showing::kept(line, ends, sent, got, out, said);
+    }
+    reading_verbs(line, lives, bytes, out, said)
 }
 
 // Lines that are answered from their bytes alone, and after them the next family.
@@ -88,6 +150,9 @@ fn reading_verbs(
     }
     if (words == 6) & equal(verb, b"reply") {
         return replying::answer(line, bytes, out, said);
+    }
+    if (words == 4) & equal(verb, b"nonce") {
+        return showing::nonce(line, bytes, out, said);
     }
     table_verbs(line, lives, bytes, out, said)
 }
