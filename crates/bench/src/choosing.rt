@@ -5,7 +5,7 @@ use crate::hex::Parted;
 use crate::say;
 use crate::say::append;
 use crate::words;
-use policy::Book;
+use book::Book;
 use policy::Choice;
 use policy::Transforms;
 use wire::after;
@@ -15,7 +15,7 @@ pub(crate) fn book(line: &[u8], bytes: &mut [u8], out: &mut [u8], said: usize) -
     let Decoded::To(end) = hex::decode(words::nth(line, 1), bytes, 0) else {
         return say::bad_line(out, said);
     };
-    let read = policy::lines::read_book(front(bytes, end));
+    let read = book::read_book(front(bytes, end));
     match read {
         Book::Refused(n) => say::refused(out, said, n),
         Book::Lawful { main, quick } => {

@@ -7,9 +7,9 @@ use crate::number::Number;
 use crate::say;
 use crate::say::append;
 use crate::words;
-use sequence::receive::fresh;
-use sequence::receive::loss_line;
-use sequence::receive::step_lent;
+use receive::fresh;
+use receive::loss_line;
+use receive::step_lent;
 use wire::equal;
 
 pub(crate) fn new_or_loss(line: &[u8], out: &mut [u8], mut state: State) -> State {

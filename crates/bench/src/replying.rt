@@ -6,7 +6,7 @@ use crate::number::Number;
 use crate::say;
 use crate::say::append;
 use crate::words;
-use policy::Reply;
+use reply::Outcome;
 use wire::after;
 use wire::front;
 
@@ -64,10 +64,10 @@ fn replied(book: &[u8], m: &[u8], own: Own, lent: &mut [u8], out: &mut [u8], sai
     if lent.len() < room {
         return say::bad_line(out, said);
     }
-    let reply = policy::replies::reply(book, m, own.ah, own.esp, &mut lent[..room]);
+    let reply = reply::reply(book, m, own.ah, own.esp, &mut lent[..room]);
     match reply {
-        Reply::Refused(n) => say::refused(out, said, n),
-        Reply::Written(size) => {
+        Outcome::Refused(n) => say::refused(out, said, n),
+        Outcome::Written(size) => {
             let said = append(out, said, b"reply ");
             say::bytes(out, said, front(lent, size))
         }

@@ -1,8 +1,8 @@
 // Filling a buffer: each function puts something at a place and gives back the place behind it. The line end of an answer
 // is put in verbs.rt, once for all.
 use crate::hex::digit;
-use sequence::receive::LossLine;
-use sequence::receive::Verdict;
+use receive::LossLine;
+use receive::Verdict;
 use wire::byte;
 use wire::put_bytes;
 ghost use mathlib.Core.Path.{_≡_};

@@ -10,8 +10,8 @@ use Rattle.policy.specs.declared.LineNumber.{LineNumber}
 use Rattle.policy.specs.declared.Transforms.the-variants.{One, Two}
 use Rattle.policy.specs.declared.Choice.{Choice}
 use Rattle.policy.specs.declared.Choice.the-variants as choices
-use Rattle.sequence.specs.declared.receive.Verdict.{Verdict}
-use Rattle.sequence.specs.declared.receive.Verdict.the-variants as Y
+use Rattle.receive.specs.declared.Verdict.{Verdict}
+use Rattle.receive.specs.declared.Verdict.the-variants as Y
 use Rattle.exports.specs.Exports.{packed, choicePacked, verdictPacked}
 
 -- what the types of the answer's parts say of it

@@ -6,10 +6,10 @@ use Rattle.message.specs.declared.Message.the-variants.{Refused, Read}
 use Rattle.policy.specs.declared.Choice.{Choice}
 use Rattle.policy.specs.declared.Choice.the-variants as choices
 use Rattle.policy.specs.declared.Transforms.the-variants.{One, Two}
-use Rattle.sequence.specs.declared.receive.Receive.{Receive}
-use Rattle.sequence.specs.declared.receive.Judged.{Judged}
-use Rattle.sequence.specs.declared.receive.Verdict.{Verdict}
-use Rattle.sequence.specs.declared.receive.Verdict.the-variants as Y
+use Rattle.receive.specs.declared.Receive.{Receive}
+use Rattle.receive.specs.declared.Judged.{Judged}
+use Rattle.receive.specs.declared.Verdict.{Verdict}
+use Rattle.receive.specs.declared.Verdict.the-variants as Y
 
 -- a refusal is its number, below 65,536; a readable message is a 1, its exchange and its count, as bytes from the high one down
 unfoldable pub packed : Message → ℕ

@@ -20,9 +20,9 @@ use Rattle.message.specs.Message.{message, walk, payloadAt}
 use Rattle.message.specs.declared.Payload.{Payload}
 use Rattle.message.specs.declared.Message.the-variants as read
 use Rattle.message.proofs.Laws.{nth, reading-found, read-as}
-use Rattle.policy.specs.Book.{bookRead}
-use Rattle.policy.specs.declared.Book.{Book}
-use Rattle.policy.specs.declared.Book.the-variants as books
+use Rattle.book.specs.Book.{bookRead}
+use Rattle.book.specs.declared.Book.{Book}
+use Rattle.book.specs.declared.Book.the-variants as books
 use Rattle.policy.specs.declared.LineNumber.{LineNumber}
 use Rattle.policy.specs.declared.Choice.{Choice}
 use Rattle.policy.specs.declared.Choice.the-variants.{Refused, Chosen}

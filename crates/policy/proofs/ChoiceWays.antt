@@ -15,11 +15,11 @@ use Rattle.message.specs.declared.Message.the-variants as read
 use Rattle.message.specs.declared.Payload.{Payload}
 use Rattle.sets.specs.Parts.{set, proposal, proposalCount}
 use Rattle.sets.specs.declared.TransformNumber.{TransformNumber}
-use Rattle.policy.specs.Book.{mainCount, quickCount, bookSize, bookInFront, bookRead}
-use Rattle.policy.specs.Suits.{lowest, setSuits}
+use Rattle.book.specs.Book.{mainCount, quickCount, bookSize, bookInFront, bookRead}
+use Rattle.suits.specs.Suits.{lowest, setSuits}
 use Rattle.policy.specs.Choice.{lineCount, lineFrom, firstLine, numberOf, transformsOf, chosen, setFrom, chooseFrom, bodyAt, saFrom, messageRefusal, messageChoice, bookChoice, choice}
-use Rattle.policy.specs.declared.Book.{Book}
-use Rattle.policy.specs.declared.Book.the-variants as books
+use Rattle.book.specs.declared.Book.{Book}
+use Rattle.book.specs.declared.Book.the-variants as books
 use Rattle.policy.specs.declared.Transforms.{Transforms}
 use Rattle.policy.specs.declared.Transforms.the-variants.{One, Two}
 use Rattle.policy.specs.declared.Choice.{Choice}

@@ -10,8 +10,8 @@ use borrow.Author.Tests.{eqb-true, eqb-false, eq-eqb, ne-eqb, leb-true, leb-fals
 use Rattle.wire.specs.Tests.{if_then_else_}
 use Rattle.wire.proofs.Tests.{never, clash, both, by-test}
 use Rattle.sets.specs.Parts.{set, setCount, proposal, proposalCount, transformCount}
-use Rattle.policy.specs.Book.{quickProtocols}
-use Rattle.policy.specs.Suits.{transformSuits, lowestFrom, lowest, protocolsAlone, protocolsBoth, protocolsSuit, setSuits}
+use Rattle.book.specs.Book.{quickProtocols}
+use Rattle.suits.specs.Suits.{transformSuits, lowestFrom, lowest, protocolsAlone, protocolsBoth, protocolsSuit, setSuits}
 use Rattle.policy.specs.Choice.{lineCount, lineFrom, firstLine, chosen, setFrom, chooseFrom}
 use Rattle.policy.specs.declared.Choice.{Choice}
 use Rattle.policy.specs.declared.Choice.the-variants.{Refused, Chosen}

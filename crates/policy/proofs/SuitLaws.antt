@@ -16,10 +16,10 @@ use Rattle.offer.specs.Proposals.{protocolWrong}
 use Rattle.offer.proofs.Laws.{Item, LawfulTransform}
 use Rattle.sets.specs.Parts.{proposal, proposalCount, protocol, transformCount, transform, transformNumbered, transformId, attributesOf}
 use Rattle.sets.proofs.Places.{transform-lawful, transform-by-number}
-use Rattle.policy.specs.Book.{quickProtocols}
+use Rattle.book.specs.Book.{quickProtocols}
 use Rattle.policy.specs.Choice.{numberOf}
 use Rattle.policy.proofs.Laws.{First, none, here, lowest-is, HasTransform, transform-low}
-use Rattle.policy.specs.Suits.{present, valueIs, lifeWithin, nothingSurplus, mainValues, mainSuits, quickId, quickIntegrity, quickSuits, transformSuits, lowest, protocolsAlone, protocolsBoth, protocolsSuit}
+use Rattle.suits.specs.Suits.{present, valueIs, lifeWithin, nothingSurplus, mainValues, mainSuits, quickId, quickIntegrity, quickSuits, transformSuits, lowest, protocolsAlone, protocolsBoth, protocolsSuit}
 
 -- ---- a transform that suits is short
 

@@ -12,10 +12,10 @@ use Rattle.message.specs.declared.Message.{Message}
 use Rattle.message.specs.declared.Message.the-variants as read
 use Rattle.sets.specs.Parts.{set, setCount, proposal, proposalCount, proposalNumber, transform, transformNumber}
 use Rattle.sets.specs.declared.TransformNumber.{TransformNumber}
-use Rattle.policy.specs.Book.{mainCount, quickCount, bookRead}
-use Rattle.policy.specs.declared.Book.{Book}
-use Rattle.policy.specs.declared.Book.the-variants as books
-use Rattle.policy.specs.Suits.{lowest, setSuits}
+use Rattle.book.specs.Book.{mainCount, quickCount, bookRead}
+use Rattle.book.specs.declared.Book.{Book}
+use Rattle.book.specs.declared.Book.the-variants as books
+use Rattle.suits.specs.Suits.{lowest, setSuits}
 use Rattle.policy.specs.declared.LineNumber.{LineNumber}
 use Rattle.policy.specs.declared.Transforms.{Transforms}
 use Rattle.policy.specs.declared.Transforms.the-variants.{One, Two}

@@ -1,4 +1,1 @@
-pub mod Book
-pub mod Suits
 pub mod Choice
-pub mod Reply

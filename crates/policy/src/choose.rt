@@ -1,12 +1,10 @@
 // The choice: first set, then first line, then lowest transform in each proposal.
-use crate::Book;
 use crate::Choice;
 use crate::LineNumber;
 use crate::Transforms;
-use crate::lines::quick_count;
-use crate::lines::read_book;
-use crate::suits::lowest;
-use crate::suits::set_suits;
+use book::Book;
+use book::quick_count;
+use book::read_book;
 use message::Message;
 use message::payload_at;
 use sets::TransformNumber;
@@ -17,6 +15,8 @@ use sets::set;
 use sets::set_count;
 use sets::transform;
 use sets::transform_number;
+use suits::lowest;
+use suits::set_suits;
 use wire::after;
 use wire::byte;
 use wire::front;
@@ -118,7 +118,7 @@ pub fn body_at(k: u8, m: &[u8]) -> &[u8]
     after(front(after(m, start), length), 4)
 }
 
-pub(crate) fn sa_from(n: u8, k: u8, m: &[u8]) -> &[u8]
+fn sa_from(n: u8, k: u8, m: &[u8]) -> &[u8]
     requires { ⌜ n + k ≤ 255 ⌝ }
     ensures { λ r. ⌜ now r ≡ saFrom n k (now (m .entry)) ⌝ }
 {
@@ -130,6 +130,13 @@ pub(crate) fn sa_from(n: u8, k: u8, m: &[u8]) -> &[u8]
         return body_at(k, m);
     }
     sa_from(n - 1, k + 1, m)
+}
+
+// The body of the SA payload; a message has at most 32 payloads.
+pub fn sa_body(m: &[u8]) -> &[u8]
+    ensures { λ r. ⌜ now r ≡ saFrom 32 0 (now (m .entry)) ⌝ }
+{
+    sa_from(32, 0, m)
 }
 
 // The number of a message that was refused.

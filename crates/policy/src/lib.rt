@@ -1,17 +1,8 @@
-// The policy: the book, what suits a line of it, the choice and the reply.
+// The choice: the first set, the first line that it suits, the lowest transform in each proposal.
 pub mod choose;
-pub mod lines;
-pub mod replies;
-pub mod suits;
 
 use sets::ProposalNumber;
 use sets::TransformNumber;
-
-// What a book is read as: how many lines of each kind it has.
-pub enum Book {
-    Refused(u16),
-    Lawful { main: u8, quick: u8 },
-}
 
 // Policy lines are counted from 1 among the main lines or among the quick lines.
 pub struct LineNumber(pub u8);
@@ -25,10 +16,4 @@ pub enum Transforms {
 pub enum Choice {
     Refused(u16),
     Chosen(ProposalNumber, LineNumber, Transforms),
-}
-
-// A refusal, or how many bytes were written.
-pub enum Reply {
-    Refused(u16),
-    Written(usize),
 }

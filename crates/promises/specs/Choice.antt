@@ -16,17 +16,17 @@ use Rattle.wire.proofs.Tests.{never, clash, by-test}
 use Rattle.message.specs.Message.{message}
 use Rattle.message.specs.declared.Message.the-variants as read
 use Rattle.sets.specs.Parts.{set, setCount, proposal, proposalCount, transformCount}
-use Rattle.policy.specs.Book.{bookRead, answer as bookAnswer}
-use Rattle.policy.specs.Suits.{transformSuits, lowest, setSuits}
+use Rattle.book.specs.Book.{bookRead, answer as bookAnswer}
+use Rattle.suits.specs.Suits.{transformSuits, lowest, setSuits}
 use Rattle.policy.specs.Choice.{lineCount, chosen, chooseFrom, saFrom, messageChoice, bookChoice, choice, answer}
-use Rattle.policy.specs.Reply.{answer as replyAnswer}
-use Rattle.policy.specs.declared.Book.{Book}
-use Rattle.policy.specs.declared.Book.the-variants as books
+use Rattle.reply.specs.Reply.{answer as replyAnswer}
+use Rattle.book.specs.declared.Book.{Book}
+use Rattle.book.specs.declared.Book.the-variants as books
 use Rattle.policy.specs.declared.Transforms.the-variants.{One, Two}
 use Rattle.policy.specs.declared.Choice.{Choice}
 use Rattle.policy.specs.declared.Choice.the-variants.{Refused, Chosen}
-use Rattle.policy.specs.declared.Reply.{Reply}
-use Rattle.policy.specs.declared.Reply.the-variants as replies
+use Rattle.reply.specs.declared.Outcome.{Outcome}
+use Rattle.reply.specs.declared.Outcome.the-variants as replies
 use Rattle.policy.proofs.Laws.{First, none, here, lowest-is, NoLine, Choosing, fourteen, chose, choosing, Suits, suits-says, says-suits}
 
 -- a lawful book, and a message that reads and has an SA payload
@@ -130,13 +130,13 @@ book-meant (books.Lawful main quick) = refl
 pub book-own : (x y : Book) → bookAnswer x ≡ bookAnswer y → x ≡ y
 book-own x y h = sym (book-meant x) ∙ ap meantBook h ∙ book-meant y
 
-abbrev meantReply : Answer → Reply
+abbrev meantReply : Answer → Outcome
 meantReply a = if eqb (length (a .values)) 0 then replies.Refused (a .number) else replies.Written (getD (a .values) 0 0)
 
-reply-meant : (r : Reply) → meantReply (replyAnswer r) ≡ r
+reply-meant : (r : Outcome) → meantReply (replyAnswer r) ≡ r
 unfolding replyAnswer
 reply-meant (replies.Refused number) = refl
 reply-meant (replies.Written size) = refl
 
-pub reply-own : (x y : Reply) → replyAnswer x ≡ replyAnswer y → x ≡ y
+pub reply-own : (x y : Outcome) → replyAnswer x ≡ replyAnswer y → x ≡ y
 reply-own x y h = sym (reply-meant x) ∙ ap meantReply h ∙ reply-meant y

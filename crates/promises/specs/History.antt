@@ -9,13 +9,13 @@ use lib.Dec.{ltb, leb, eqb}
 use Rattle.wire.specs.Wire.{bytesOf}
 use Rattle.wire.specs.Tests.{if_then_else_}
 use Rattle.wire.specs.Answer.{Answer, done, refused}
-use Rattle.sequence.specs.declared.receive.Receive.{Receive}
-use Rattle.sequence.specs.declared.receive.Verdict.{Verdict}
-use Rattle.sequence.specs.declared.packets.Packet.{Packet}
-use Rattle.sequence.specs.declared.packets.Packet.the-variants.{Read, Refused}
+use Rattle.receive.specs.declared.Receive.{Receive}
+use Rattle.receive.specs.declared.Verdict.{Verdict}
+use Rattle.packets.specs.declared.Packet.{Packet}
+use Rattle.packets.specs.declared.Packet.the-variants.{Read, Refused}
 use Rattle.sequence.specs.declared.table.Key.{Key}
-use Rattle.sequence.specs.Receive.{judged, answer}
-use Rattle.sequence.specs.Packets.{known, read}
+use Rattle.receive.specs.Receive.{judged, answer}
+use Rattle.packets.specs.Packets.{known, read}
 use Rattle.sequence.specs.Table.{empty, added, removed, packet, sent, loss, outcome, sending, counted}
 
 -- ---- what came before

@@ -15,15 +15,15 @@ use Rattle.message.specs.Payloads as payloads
 use Rattle.message.specs.Message as message
 use Rattle.promises.specs.Messages.{example, both, mainBook, quickBook}
 use Rattle.sets.specs.Parts as parts
-use Rattle.policy.specs.Book as books
-use Rattle.policy.specs.Suits as suits
+use Rattle.book.specs.Book as books
+use Rattle.suits.specs.Suits as suits
 use Rattle.policy.specs.Choice as choices
 use Rattle.promises.specs.History.{packetsOf, lastOf, lossOf, answered, answeredAll}
 use Rattle.quick.specs.Messages as messages
 use Rattle.quick.specs.Ends as ends
 use Rattle.quick.specs.declared.Role.the-variants.{Initiator}
-use Rattle.sequence.specs.Receive as receive
-use Rattle.sequence.specs.Packets as packets
+use Rattle.receive.specs.Receive as receive
+use Rattle.packets.specs.Packets as packets
 use Rattle.sequence.specs.Table as tables
 use lib.Count.{ones}
 

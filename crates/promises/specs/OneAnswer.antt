@@ -100,30 +100,38 @@ use Rattle.message.proofs.payload_at.Kinds as message-payload-at-kinds
 use Rattle.message.proofs.payload_at.Reads as message-payload-at-reads
 use Rattle.message.proofs.payloads.body_of.Kinds as message-body-of-kinds
 use Rattle.message.proofs.payloads.body_of.Reads as message-body-of-reads
-use Rattle.policy.proofs.lines.book_size.Kinds as policy-book-size-kinds
-use Rattle.policy.proofs.lines.book_size.Reads as policy-book-size-reads
-use Rattle.policy.proofs.lines.book_in_front.Kinds as policy-book-in-front-kinds
-use Rattle.policy.proofs.lines.book_in_front.Reads as policy-book-in-front-reads
-use Rattle.policy.proofs.lines.read_book.Kinds as policy-read-book-kinds
-use Rattle.policy.proofs.lines.read_book.Reads as policy-read-book-reads
+use Rattle.book.proofs.book_size.Kinds as book-book-size-kinds
+use Rattle.book.proofs.book_size.Reads as book-book-size-reads
+use Rattle.book.proofs.book_in_front.Kinds as book-book-in-front-kinds
+use Rattle.book.proofs.book_in_front.Reads as book-book-in-front-reads
+use Rattle.book.proofs.read_book.Kinds as book-read-book-kinds
+use Rattle.book.proofs.read_book.Reads as book-read-book-reads
+use Rattle.book.proofs.main_seconds.Kinds as book-main-seconds-kinds
+use Rattle.book.proofs.main_seconds.Reads as book-main-seconds-reads
+use Rattle.suits.proofs.lowest.Kinds as suits-lowest-kinds
+use Rattle.suits.proofs.lowest.Reads as suits-lowest-reads
+use Rattle.suits.proofs.set_suits.Kinds as suits-set-suits-kinds
+use Rattle.suits.proofs.set_suits.Reads as suits-set-suits-reads
+use Rattle.policy.proofs.choose.sa_body.Kinds as policy-sa-body-kinds
+use Rattle.policy.proofs.choose.sa_body.Reads as policy-sa-body-reads
 use Rattle.policy.proofs.choose.choose.Kinds as policy-choose-kinds
 use Rattle.policy.proofs.choose.choose.Reads as policy-choose-reads
-use Rattle.policy.proofs.lines.quick_count.Kinds as policy-quick-count-kinds
-use Rattle.policy.proofs.lines.quick_count.Reads as policy-quick-count-reads
-use Rattle.policy.proofs.lines.quick_protocols.Kinds as policy-quick-protocols-kinds
-use Rattle.policy.proofs.lines.quick_protocols.Reads as policy-quick-protocols-reads
-use Rattle.policy.proofs.lines.quick_mode.Kinds as policy-quick-mode-kinds
-use Rattle.policy.proofs.lines.quick_mode.Reads as policy-quick-mode-reads
-use Rattle.policy.proofs.lines.quick_seconds.Kinds as policy-quick-seconds-kinds
-use Rattle.policy.proofs.lines.quick_seconds.Reads as policy-quick-seconds-reads
-use Rattle.policy.proofs.suits.quick_id.Kinds as policy-quick-id-kinds
-use Rattle.policy.proofs.suits.quick_id.Reads as policy-quick-id-reads
+use Rattle.book.proofs.quick_count.Kinds as book-quick-count-kinds
+use Rattle.book.proofs.quick_count.Reads as book-quick-count-reads
+use Rattle.book.proofs.quick_protocols.Kinds as book-quick-protocols-kinds
+use Rattle.book.proofs.quick_protocols.Reads as book-quick-protocols-reads
+use Rattle.book.proofs.quick_mode.Kinds as book-quick-mode-kinds
+use Rattle.book.proofs.quick_mode.Reads as book-quick-mode-reads
+use Rattle.book.proofs.quick_seconds.Kinds as book-quick-seconds-kinds
+use Rattle.book.proofs.quick_seconds.Reads as book-quick-seconds-reads
+use Rattle.suits.proofs.quick_id.Kinds as suits-quick-id-kinds
+use Rattle.suits.proofs.quick_id.Reads as suits-quick-id-reads
 use Rattle.policy.proofs.choose.choose_from.Kinds as policy-choose-from-kinds
 use Rattle.policy.proofs.choose.choose_from.Reads as policy-choose-from-reads
 use Rattle.policy.proofs.choose.body_at.Kinds as policy-body-at-kinds
 use Rattle.policy.proofs.choose.body_at.Reads as policy-body-at-reads
-use Rattle.policy.proofs.replies.put_proposal.Kinds as policy-put-proposal-kinds
-use Rattle.policy.proofs.replies.put_proposal.Reads as policy-put-proposal-reads
+use Rattle.reply.proofs.put_proposal.Kinds as reply-put-proposal-kinds
+use Rattle.reply.proofs.put_proposal.Reads as reply-put-proposal-reads
 use Rattle.quick.proofs.fresh.fresh.Kinds as quick-fresh-kinds
 use Rattle.quick.proofs.fresh.fresh.Reads as quick-fresh-reads
 use Rattle.quick.proofs.begin.begin.Kinds as quick-begin-kinds
@@ -134,10 +142,10 @@ use Rattle.quick.proofs.tick.tick.Kinds as quick-tick-kinds
 use Rattle.quick.proofs.tick.tick.Reads as quick-tick-reads
 use Rattle.quick.proofs.reading.nonce.Kinds as quick-nonce-kinds
 use Rattle.quick.proofs.reading.nonce.Reads as quick-nonce-reads
-use Rattle.policy.proofs.replies.put_reply.Kinds as policy-put-reply-kinds
-use Rattle.policy.proofs.replies.put_reply.Reads as policy-put-reply-reads
-use Rattle.policy.proofs.replies.reply.Kinds as policy-reply-kinds
-use Rattle.policy.proofs.replies.reply.Reads as policy-reply-reads
+use Rattle.reply.proofs.put_reply.Kinds as reply-put-reply-kinds
+use Rattle.reply.proofs.put_reply.Reads as reply-put-reply-reads
+use Rattle.reply.proofs.reply.Kinds as reply-reply-kinds
+use Rattle.reply.proofs.reply.Reads as reply-reply-reads
 use Rattle.attribute.proofs.attribute_count.Kinds as attribute-attribute-count-kinds
 use Rattle.attribute.proofs.attribute_count.Reads as attribute-attribute-count-reads
 use Rattle.exports.proofs.tallowbrim_read.Kinds as exports-tallowbrim-read-kinds
@@ -148,16 +156,16 @@ use Rattle.exports.proofs.tallowbrim_packet.Kinds as exports-tallowbrim-packet-
 use Rattle.exports.proofs.tallowbrim_packet.Reads as exports-tallowbrim-packet-reads
 use Rattle.exports.proofs.tallowbrim_step as exports-tallowbrim-step-contract
 use Rattle.exports.specs.Exports.{judgedPacked}
-use Rattle.sequence.proofs.packets.known.Kinds as sequence-known-kinds
-use Rattle.sequence.proofs.packets.known.Reads as sequence-known-reads
-use Rattle.sequence.proofs.packets.read.Kinds as sequence-read-kinds
-use Rattle.sequence.proofs.packets.read.Reads as sequence-read-reads
-use Rattle.sequence.proofs.receive.fresh.Kinds as sequence-fresh-kinds
-use Rattle.sequence.proofs.receive.fresh.Reads as sequence-fresh-reads
-use Rattle.sequence.proofs.receive.step.Kinds as sequence-step-kinds
-use Rattle.sequence.proofs.receive.step.Reads as sequence-step-reads
-use Rattle.sequence.proofs.receive.loss_line.Kinds as sequence-loss-line-kinds
-use Rattle.sequence.proofs.receive.loss_line.Reads as sequence-loss-line-reads
+use Rattle.packets.proofs.known.Kinds as packets-known-kinds
+use Rattle.packets.proofs.known.Reads as packets-known-reads
+use Rattle.packets.proofs.read.Kinds as packets-read-kinds
+use Rattle.packets.proofs.read.Reads as packets-read-reads
+use Rattle.receive.proofs.fresh.Kinds as receive-fresh-kinds
+use Rattle.receive.proofs.fresh.Reads as receive-fresh-reads
+use Rattle.receive.proofs.step.Kinds as receive-step-kinds
+use Rattle.receive.proofs.step.Reads as receive-step-reads
+use Rattle.receive.proofs.loss_line.Kinds as receive-loss-line-kinds
+use Rattle.receive.proofs.loss_line.Reads as receive-loss-line-reads
 use Rattle.sequence.proofs.table.add.Kinds as sequence-add-kinds
 use Rattle.sequence.proofs.table.add.Reads as sequence-add-reads
 use Rattle.sequence.proofs.table.remove.Kinds as sequence-remove-kinds
@@ -168,17 +176,17 @@ use Rattle.sequence.proofs.table.send.Kinds as sequence-send-kinds
 use Rattle.sequence.proofs.table.send.Reads as sequence-send-reads
 use Rattle.sequence.proofs.table.loss.Kinds as sequence-loss-kinds
 use Rattle.sequence.proofs.table.loss.Reads as sequence-loss-reads
-use Rattle.sequence.proofs.receive.step_in_place as sequence-step-in-place-contract
-use Rattle.sequence.proofs.receive.step_lent as sequence-step-lent-contract
-use Rattle.policy.specs.declared.Reply.{Reply}
+use Rattle.receive.proofs.step_in_place as receive-step-in-place-contract
+use Rattle.receive.proofs.step_lent as receive-step-lent-contract
+use Rattle.reply.specs.declared.Outcome.{Outcome as ReplyOutcome}
 use Rattle.quick.specs.Ends.{After}
 use Rattle.quick.specs.declared.Stepped.{Stepped}
-use Rattle.sequence.specs.declared.receive.Receive.{Receive}
-use Rattle.sequence.specs.declared.receive.Verdict.{Verdict}
-use Rattle.sequence.specs.declared.receive.Judged.{Judged}
+use Rattle.receive.specs.declared.Receive.{Receive}
+use Rattle.receive.specs.declared.Verdict.{Verdict}
+use Rattle.receive.specs.declared.Judged.{Judged}
 use Rattle.sequence.specs.declared.table.Outcome.{Outcome}
 use Rattle.sequence.specs.declared.table.Sending.{Sending}
-use Rattle.sequence.specs.Receive.{judged}
+use Rattle.receive.specs.Receive.{judged}
 
 -- two answers to one call agree in what is seen of them
 abbrev pub OneAnswer : (n : ℕ) (ps : List (PK n)) (r : RK n) {A : Type 0} → ((κs : Lfts n) → resT r κs .Denot → AtExit (endedOf n ps r) κs → A) → Out n ps r → Type 0
@@ -312,32 +320,44 @@ message-payload-at κs arguments x y s t p q = p ∙ sym q
 pub message-body-of : OneAnswer 1 message-body-of-kinds.ps message-body-of-kinds.r (λ κs x s. now x) message-body-of-reads.Post
 message-body-of κs arguments x y s t p q = p ∙ sym q
 
-pub policy-book-size : OneAnswer 1 policy-book-size-kinds.ps policy-book-size-kinds.r (λ κs x s. x) policy-book-size-reads.Post
-policy-book-size κs arguments x y s t p q = p ∙ sym q
+pub book-book-size : OneAnswer 1 book-book-size-kinds.ps book-book-size-kinds.r (λ κs x s. x) book-book-size-reads.Post
+book-book-size κs arguments x y s t p q = p ∙ sym q
 
-pub policy-book-in-front : OneAnswer 1 policy-book-in-front-kinds.ps policy-book-in-front-kinds.r (λ κs x s. x) policy-book-in-front-reads.Post
-policy-book-in-front κs arguments x y s t p q = p ∙ sym q
+pub book-book-in-front : OneAnswer 1 book-book-in-front-kinds.ps book-book-in-front-kinds.r (λ κs x s. x) book-book-in-front-reads.Post
+book-book-in-front κs arguments x y s t p q = p ∙ sym q
 
-pub policy-read-book : OneAnswer 1 policy-read-book-kinds.ps policy-read-book-kinds.r (λ κs x s. x) policy-read-book-reads.Post
-policy-read-book κs arguments x y s t p q = p ∙ sym q
+pub book-read-book : OneAnswer 1 book-read-book-kinds.ps book-read-book-kinds.r (λ κs x s. x) book-read-book-reads.Post
+book-read-book κs arguments x y s t p q = p ∙ sym q
+
+pub book-main-seconds : OneAnswer 1 book-main-seconds-kinds.ps book-main-seconds-kinds.r (λ κs x s. x) book-main-seconds-reads.Post
+book-main-seconds κs arguments x y s t p q = p ∙ sym q
+
+pub suits-lowest : OneAnswer 2 suits-lowest-kinds.ps suits-lowest-kinds.r (λ κs x s. x) suits-lowest-reads.Post
+suits-lowest κs arguments x y s t p q = p ∙ sym q
+
+pub suits-set-suits : OneAnswer 2 suits-set-suits-kinds.ps suits-set-suits-kinds.r (λ κs x s. x) suits-set-suits-reads.Post
+suits-set-suits κs arguments x y s t p q = p ∙ sym q
+
+pub policy-sa-body : OneAnswer 1 policy-sa-body-kinds.ps policy-sa-body-kinds.r (λ κs x s. now x) policy-sa-body-reads.Post
+policy-sa-body κs arguments x y s t p q = p ∙ sym q
 
 pub policy-choose : OneAnswer 2 policy-choose-kinds.ps policy-choose-kinds.r (λ κs x s. x) policy-choose-reads.Post
 policy-choose κs arguments x y s t p q = p ∙ sym q
 
-pub policy-quick-count : OneAnswer 1 policy-quick-count-kinds.ps policy-quick-count-kinds.r (λ κs x s. x) policy-quick-count-reads.Post
-policy-quick-count κs arguments x y s t p q = p ∙ sym q
+pub book-quick-count : OneAnswer 1 book-quick-count-kinds.ps book-quick-count-kinds.r (λ κs x s. x) book-quick-count-reads.Post
+book-quick-count κs arguments x y s t p q = p ∙ sym q
 
-pub policy-quick-protocols : OneAnswer 1 policy-quick-protocols-kinds.ps policy-quick-protocols-kinds.r (λ κs x s. x) policy-quick-protocols-reads.Post
-policy-quick-protocols κs arguments x y s t p q = p ∙ sym q
+pub book-quick-protocols : OneAnswer 1 book-quick-protocols-kinds.ps book-quick-protocols-kinds.r (λ κs x s. x) book-quick-protocols-reads.Post
+book-quick-protocols κs arguments x y s t p q = p ∙ sym q
 
-pub policy-quick-mode : OneAnswer 1 policy-quick-mode-kinds.ps policy-quick-mode-kinds.r (λ κs x s. x) policy-quick-mode-reads.Post
-policy-quick-mode κs arguments x y s t p q = p ∙ sym q
+pub book-quick-mode : OneAnswer 1 book-quick-mode-kinds.ps book-quick-mode-kinds.r (λ κs x s. x) book-quick-mode-reads.Post
+book-quick-mode κs arguments x y s t p q = p ∙ sym q
 
-pub policy-quick-seconds : OneAnswer 1 policy-quick-seconds-kinds.ps policy-quick-seconds-kinds.r (λ κs x s. x) policy-quick-seconds-reads.Post
-policy-quick-seconds κs arguments x y s t p q = p ∙ sym q
+pub book-quick-seconds : OneAnswer 1 book-quick-seconds-kinds.ps book-quick-seconds-kinds.r (λ κs x s. x) book-quick-seconds-reads.Post
+book-quick-seconds κs arguments x y s t p q = p ∙ sym q
 
-pub policy-quick-id : OneAnswer 0 policy-quick-id-kinds.ps policy-quick-id-kinds.r (λ κs x s. x) policy-quick-id-reads.Post
-policy-quick-id κs arguments x y s t p q = p ∙ sym q
+pub suits-quick-id : OneAnswer 0 suits-quick-id-kinds.ps suits-quick-id-kinds.r (λ κs x s. x) suits-quick-id-reads.Post
+suits-quick-id κs arguments x y s t p q = p ∙ sym q
 
 pub policy-choose-from : OneAnswer 2 policy-choose-from-kinds.ps policy-choose-from-kinds.r (λ κs x s. x) policy-choose-from-reads.Post
 policy-choose-from κs arguments x y s t p q = p ∙ sym q
@@ -345,8 +365,8 @@ policy-choose-from κs arguments x y s t p q = p ∙ sym q
 pub policy-body-at : OneAnswer 1 policy-body-at-kinds.ps policy-body-at-kinds.r (λ κs x s. now x) policy-body-at-reads.Post
 policy-body-at κs arguments x y s t p q = p ∙ sym q
 
-pub policy-put-proposal : OneAnswer 2 policy-put-proposal-kinds.ps policy-put-proposal-kinds.r {A = ℕ × List ℕ} (λ κs x s. (x, now (s .0))) policy-put-proposal-reads.Post
-policy-put-proposal κs arguments x y s t p q = sym p ∙ q
+pub reply-put-proposal : OneAnswer 2 reply-put-proposal-kinds.ps reply-put-proposal-kinds.r {A = ℕ × List ℕ} (λ κs x s. (x, now (s .0))) reply-put-proposal-reads.Post
+reply-put-proposal κs arguments x y s t p q = sym p ∙ q
 
 pub quick-fresh : OneAnswer 2 quick-fresh-kinds.ps quick-fresh-kinds.r (λ κs x s. x) quick-fresh-reads.Post
 quick-fresh κs arguments x y s t p q = p ∙ sym q
@@ -363,11 +383,11 @@ quick-tick κs arguments x y s t p q = ap (λ (a : After). (a .step, a .output))
 pub quick-nonce : OneAnswer 1 quick-nonce-kinds.ps quick-nonce-kinds.r (λ κs x s. now x) quick-nonce-reads.Post
 quick-nonce κs arguments x y s t p q = p ∙ sym q
 
-pub policy-put-reply : OneAnswer 2 policy-put-reply-kinds.ps policy-put-reply-kinds.r {A = ℕ × List ℕ} (λ κs x s. (x, now (s .0))) policy-put-reply-reads.Post
-policy-put-reply κs arguments x y s t p q = sym p ∙ q
+pub reply-put-reply : OneAnswer 2 reply-put-reply-kinds.ps reply-put-reply-kinds.r {A = ℕ × List ℕ} (λ κs x s. (x, now (s .0))) reply-put-reply-reads.Post
+reply-put-reply κs arguments x y s t p q = sym p ∙ q
 
-pub policy-reply : OneAnswer 3 policy-reply-kinds.ps policy-reply-kinds.r {A = Reply × List ℕ} (λ κs x s. (x, now (s .1 .1 .1 .1 .0))) policy-reply-reads.Post
-policy-reply κs arguments x y s t p q = sym p ∙ q
+pub reply-reply : OneAnswer 3 reply-reply-kinds.ps reply-reply-kinds.r {A = ReplyOutcome × List ℕ} (λ κs x s. (x, now (s .1 .1 .1 .1 .0))) reply-reply-reads.Post
+reply-reply κs arguments x y s t p q = sym p ∙ q
 
 pub attribute-attribute-count : OneAnswer 1 attribute-attribute-count-kinds.ps attribute-attribute-count-kinds.r (λ κs x s. x) attribute-attribute-count-reads.Post
 attribute-attribute-count κs arguments x y s t p q = p ∙ sym q
@@ -378,20 +398,20 @@ exports-tallowbrim-read κs arguments x y s t p q = p ∙ sym q
 pub exports-tallowbrim-choose : OneAnswer 2 exports-tallowbrim-choose-kinds.ps exports-tallowbrim-choose-kinds.r (λ κs x s. x) exports-tallowbrim-choose-reads.Post
 exports-tallowbrim-choose κs arguments x y s t p q = p ∙ sym q
 
-pub sequence-known : OneAnswer 0 sequence-known-kinds.ps sequence-known-kinds.r (λ κs x s. x) sequence-known-reads.Post
-sequence-known κs arguments x y s t p q = p ∙ sym q
+pub packets-known : OneAnswer 0 packets-known-kinds.ps packets-known-kinds.r (λ κs x s. x) packets-known-reads.Post
+packets-known κs arguments x y s t p q = p ∙ sym q
 
-pub sequence-read : OneAnswer 1 sequence-read-kinds.ps sequence-read-kinds.r (λ κs x s. x) sequence-read-reads.Post
-sequence-read κs arguments x y s t p q = p ∙ sym q
+pub packets-read : OneAnswer 1 packets-read-kinds.ps packets-read-kinds.r (λ κs x s. x) packets-read-reads.Post
+packets-read κs arguments x y s t p q = p ∙ sym q
 
-pub sequence-fresh : OneAnswer 0 sequence-fresh-kinds.ps sequence-fresh-kinds.r (λ κs x s. x) sequence-fresh-reads.Post
-sequence-fresh κs arguments x y s t p q = p ∙ sym q
+pub receive-fresh : OneAnswer 0 receive-fresh-kinds.ps receive-fresh-kinds.r (λ κs x s. x) receive-fresh-reads.Post
+receive-fresh κs arguments x y s t p q = p ∙ sym q
 
-pub sequence-step : OneAnswer 0 sequence-step-kinds.ps sequence-step-kinds.r (λ κs x s. x) sequence-step-reads.Post
-sequence-step κs arguments x y s t p q = p ∙ sym q
+pub receive-step : OneAnswer 0 receive-step-kinds.ps receive-step-kinds.r (λ κs x s. x) receive-step-reads.Post
+receive-step κs arguments x y s t p q = p ∙ sym q
 
-pub sequence-loss-line : OneAnswer 0 sequence-loss-line-kinds.ps sequence-loss-line-kinds.r (λ κs x s. x) sequence-loss-line-reads.Post
-sequence-loss-line κs arguments x y s t p q = p ∙ sym q
+pub receive-loss-line : OneAnswer 0 receive-loss-line-kinds.ps receive-loss-line-kinds.r (λ κs x s. x) receive-loss-line-reads.Post
+receive-loss-line κs arguments x y s t p q = p ∙ sym q
 
 pub sequence-add : OneAnswer 1 sequence-add-kinds.ps sequence-add-kinds.r {A = Outcome × List ℕ} (λ κs x s. (x, now (s .0))) sequence-add-reads.Post
 sequence-add κs arguments x y s t p q = sym p ∙ q
@@ -414,20 +434,20 @@ abbrev pub Lent : Receive → ℕ → Bool → Receive → Verdict → Type 0
 Lent before number whole after verdict = judged before number whole ≡ record { receive = after; verdict = verdict }
 
 module _ {M : Type 1} (𝓤 : URA M) (H : Heap 𝓤) (A : Atoms 𝓤) (at-mem : Memory → SProp 𝓤) (run : Routine → Fun 𝓤) where
-  pub sequence-step-in-place-claim : (κs : Lfts 1) (a : ArgsD sequence-step-in-place-contract.signature κs) (x : Verdict) (s : AtExit sequence-step-in-place-contract.ended κs) →
-      sequence-step-in-place-contract.clauses 𝓤 H A at-mem run κs a .ensures tt x s ≡ fact 𝓤 (Lent (now (a .0)) (a .1 .0) (a .1 .1 .0) (now (s .0)) x)
-  sequence-step-in-place-claim κs a x s = refl
+  pub receive-step-in-place-claim : (κs : Lfts 1) (a : ArgsD receive-step-in-place-contract.signature κs) (x : Verdict) (s : AtExit receive-step-in-place-contract.ended κs) →
+      receive-step-in-place-contract.clauses 𝓤 H A at-mem run κs a .ensures tt x s ≡ fact 𝓤 (Lent (now (a .0)) (a .1 .0) (a .1 .1 .0) (now (s .0)) x)
+  receive-step-in-place-claim κs a x s = refl
 
-  pub sequence-step-lent-claim : (κs : Lfts 0) (a : ArgsD sequence-step-lent-contract.signature κs) (x : Judged) (s : AtExit sequence-step-lent-contract.ended κs) →
-      sequence-step-lent-contract.clauses 𝓤 H A at-mem run κs a .ensures tt x s ≡ fact 𝓤 (x ≡ judged (a .0) (a .1 .0) (a .1 .1 .0))
-  sequence-step-lent-claim κs a x s = refl
+  pub receive-step-lent-claim : (κs : Lfts 0) (a : ArgsD receive-step-lent-contract.signature κs) (x : Judged) (s : AtExit receive-step-lent-contract.ended κs) →
+      receive-step-lent-contract.clauses 𝓤 H A at-mem run κs a .ensures tt x s ≡ fact 𝓤 (x ≡ judged (a .0) (a .1 .0) (a .1 .1 .0))
+  receive-step-lent-claim κs a x s = refl
 
-pub sequence-step-in-place : (before : Receive) (number : ℕ) (whole : Bool) (r q : Receive) (x y : Verdict) → Lent before number whole r x → Lent before number whole q y →
+pub receive-step-in-place : (before : Receive) (number : ℕ) (whole : Bool) (r q : Receive) (x y : Verdict) → Lent before number whole r x → Lent before number whole q y →
     _≡_ {A = Judged} (record { receive = r; verdict = x }) (record { receive = q; verdict = y })
-sequence-step-in-place before number whole r q x y p e = sym p ∙ e
+receive-step-in-place before number whole r q x y p e = sym p ∙ e
 
-pub sequence-step-lent : (before : Receive) (number : ℕ) (whole : Bool) (x y : Judged) → x ≡ judged before number whole → y ≡ judged before number whole → x ≡ y
-sequence-step-lent before number whole x y p q = p ∙ sym q
+pub receive-step-lent : (before : Receive) (number : ℕ) (whole : Bool) (x y : Judged) → x ≡ judged before number whole → y ≡ judged before number whole → x ≡ y
+receive-step-lent before number whole x y p q = p ∙ sym q
 
 pub exports-tallowbrim-packet : OneAnswer 2 exports-tallowbrim-packet-kinds.ps exports-tallowbrim-packet-kinds.r {A = ℕ × List ℕ} (λ κs x s. (x, now (s .0))) exports-tallowbrim-packet-reads.Post
 exports-tallowbrim-packet κs arguments x y s t p q = sym p ∙ q

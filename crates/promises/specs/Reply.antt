@@ -23,18 +23,18 @@ use Rattle.offer.specs.Proposals.{offerCode}
 use Rattle.sets.specs.Parts.{set, setCount, setNumbered, proposal, proposalCount, proposalNumber, protocol, spi, transform, transformCount, transformNumber}
 use Rattle.sets.specs.declared.ProposalNumber.{ProposalNumber}
 use Rattle.sets.specs.declared.TransformNumber.{TransformNumber}
-use Rattle.policy.specs.Suits.{lowest, protocolsSuit}
+use Rattle.suits.specs.Suits.{lowest, protocolsSuit}
 use Rattle.policy.specs.Choice.{numberOf, transformsOf, saFrom, choice}
-use Rattle.policy.specs.Reply.{ownSpi, saOf, setReply, spisLow, replied}
+use Rattle.reply.specs.Reply.{ownSpi, saOf, setReply, spisLow, replied}
 use Rattle.policy.specs.declared.LineNumber.{LineNumber}
 use Rattle.policy.specs.declared.Transforms.{Transforms}
 use Rattle.policy.specs.declared.Transforms.the-variants.{One, Two}
 use Rattle.policy.specs.declared.Choice.the-variants.{Chosen}
-use Rattle.policy.specs.declared.Reply.{Reply}
-use Rattle.policy.specs.declared.Reply.the-variants.{Written}
+use Rattle.reply.specs.declared.Outcome.{Outcome}
+use Rattle.reply.specs.declared.Outcome.the-variants.{Written}
 use Rattle.policy.proofs.SuitLaws.{Known, isakmp, ah-of, esp-of, known-of, chosenIn, taken, shape}
 use Rattle.policy.proofs.ChoiceLaws.{Chose, chose-says, sa-in-front}
-use Rattle.policy.proofs.ReplyLaws.{Repeats, choice-repeats, choice-short, choice-written, sa-lies, sa-long, sa-begins}
+use Rattle.reply.proofs.ReplyLaws.{Repeats, choice-repeats, choice-short, choice-written, sa-lies, sa-long, sa-begins}
 
 -- ---- what is promised
 
@@ -77,7 +77,7 @@ headerFor m size = take 16 m ++ (1 ∷ getD m 17 0 ∷ getD m 18 0 ∷ 0 ∷ (ta
 
 -- r, what is answered to a choice and the buffer after it: the buffer begins with an SA payload that reads back under every such header, and is
 -- else as it was
-pub record TheReply (exchange count ah esp : ℕ) (m : List ℕ) (number : ProposalNumber) (transforms : Transforms) (buffer : List ℕ) (r : Reply × List ℕ) : Type 0 where
+pub record TheReply (exchange count ah esp : ℕ) (m : List ℕ) (number : ProposalNumber) (transforms : Transforms) (buffer : List ℕ) (r : Outcome × List ℕ) : Type 0 where
   pub payload : List ℕ
   pub fits : length payload ≤ 2048
   pub answered : r .0 ≡ Written (length payload)

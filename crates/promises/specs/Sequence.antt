@@ -4,11 +4,11 @@ use mathlib.Core.Path.{_≡_, ap}
 use mathlib.Core.Bool.{Bool, false}
 use mathlib.Core.List.{List, [], _∷_}
 use lib.ListN.{length}
-use Rattle.sequence.specs.declared.packets.Packet.the-variants.{Read}
+use Rattle.packets.specs.declared.Packet.the-variants.{Read}
 use Rattle.sequence.specs.declared.table.Key.{Key}
 use Rattle.sequence.specs.declared.table.Outcome.the-variants.{Done}
-use Rattle.sequence.specs.Receive.{fresh}
-use Rattle.sequence.specs.Packets.{read}
+use Rattle.receive.specs.Receive.{fresh}
+use Rattle.packets.specs.Packets.{read}
 use Rattle.sequence.specs.Table.{empty, find, entryAt, added}
 use Rattle.wire.specs.Answer.{done}
 use Rattle.promises.specs.History.{Call, shows, sends, asks, isDone, keyOf, accepted, handed, rightNumber, answered, answeredAll, rightAll, Distinct, countdown, isAdding, Carries, tableVerdicts, lentVerdicts}

@@ -6,18 +6,18 @@ use lib.ListN.{length, getD}
 use lib.Dec.{eqb}
 use Rattle.wire.specs.Tests.{if_then_else_}
 use Rattle.wire.specs.Answer.{Answer}
-use Rattle.sequence.specs.declared.receive.Verdict.{Verdict}
-use Rattle.sequence.specs.declared.packets.Packet.{Packet}
-use Rattle.sequence.specs.declared.packets.Packet.the-variants.{Read, Refused}
+use Rattle.receive.specs.declared.Verdict.{Verdict}
+use Rattle.packets.specs.declared.Packet.{Packet}
+use Rattle.packets.specs.declared.Packet.the-variants.{Read, Refused}
 use Rattle.sequence.specs.declared.table.Outcome.{Outcome}
 use Rattle.sequence.specs.declared.table.Outcome.the-variants as O
 use Rattle.sequence.specs.declared.table.Sending.{Sending}
 use Rattle.sequence.specs.declared.table.Sending.the-variants as S
 use Rattle.sequence.specs.declared.table.Counted.{Counted}
 use Rattle.sequence.specs.declared.table.Counted.the-variants as C
-use Rattle.sequence.specs.declared.receive.Verdict.the-variants as Y
-use Rattle.sequence.specs.Receive.{answer}
-use Rattle.sequence.specs.Packets.{answer as packetAnswer}
+use Rattle.receive.specs.declared.Verdict.the-variants as Y
+use Rattle.receive.specs.Receive.{answer}
+use Rattle.packets.specs.Packets.{answer as packetAnswer}
 use Rattle.sequence.specs.Table.{outcome, sending, counted}
 use Rattle.promises.specs.History.{highest}
 

@@ -12,14 +12,14 @@ use Rattle.wire.specs.Wire.{numberAt}
 use Rattle.wire.specs.Tests.{if_then_else_}
 use Rattle.wire.specs.Answer.{Answer, refused, done}
 use Rattle.wire.proofs.Tests.{never, by-test}
-use Rattle.sequence.specs.declared.receive.Receive.{Receive}
-use Rattle.sequence.specs.declared.receive.Judged.{Judged}
-use Rattle.sequence.specs.declared.packets.Packet.{Packet}
-use Rattle.sequence.specs.declared.packets.Packet.the-variants.{Read, Refused}
+use Rattle.receive.specs.declared.Receive.{Receive}
+use Rattle.receive.specs.declared.Judged.{Judged}
+use Rattle.packets.specs.declared.Packet.{Packet}
+use Rattle.packets.specs.declared.Packet.the-variants.{Read, Refused}
 use Rattle.sequence.specs.declared.table.Key.{Key}
 use Rattle.sequence.specs.declared.table.Entry.{Entry}
-use Rattle.sequence.specs.Receive.{judged, answer}
-use Rattle.sequence.specs.Packets.{known, ahSize, ah, esp, read}
+use Rattle.receive.specs.Receive.{judged, answer}
+use Rattle.packets.specs.Packets.{known, ahSize, ah, esp, read}
 use Rattle.sequence.specs.Table.{empty, find, free, entryAt, putEntry, emptied, added, removed, judgedAt, packetRead, packet, handedOut, sent, loss, outcome, sending, counted}
 use Rattle.promises.specs.History.{Call, adds, removes, shows, sends, asks, Event, isDone, same, keyOf, lives, accepted, handed, entries, highest, recent, rightNumber, rightPacket, right, answered}
 use Rattle.promises.specs.SequenceRecord.{Shows, one-step, count-right, after}

@@ -10,17 +10,17 @@ use lib.Dec.{leb, ltb}
 use lib.Count.{ones}
 use Rattle.wire.specs.Tests.{if_then_else_}
 use Rattle.wire.proofs.Tests.{never, clash, by-test}
-use Rattle.sequence.specs.declared.receive.Verdict.{Verdict}
-use Rattle.sequence.specs.declared.receive.Judged.{Judged}
-use Rattle.sequence.specs.declared.packets.Packet.{Packet}
-use Rattle.sequence.specs.declared.packets.Packet.the-variants.{Read, Refused}
+use Rattle.receive.specs.declared.Verdict.{Verdict}
+use Rattle.receive.specs.declared.Judged.{Judged}
+use Rattle.packets.specs.declared.Packet.{Packet}
+use Rattle.packets.specs.declared.Packet.the-variants.{Read, Refused}
 use Rattle.sequence.specs.declared.table.Key.{Key}
 use Rattle.sequence.specs.declared.table.Entry.{Entry}
 use Rattle.sequence.specs.declared.table.Outcome.{Outcome}
 use Rattle.sequence.specs.declared.table.Outcome.the-variants as O
 use Rattle.sequence.proofs.Laws as L
-use Rattle.sequence.specs.Receive.{fresh, judged, answer}
-use Rattle.sequence.specs.Packets.{known, read}
+use Rattle.receive.specs.Receive.{fresh, judged, answer}
+use Rattle.packets.specs.Packets.{known, read}
 use Rattle.sequence.specs.Table.{find, free, entryAt, putEntry, putKey, newEntry, added, removed, judgedAt, packetRead, packet, handedOut, sent, loss, outcome, sending, counted}
 use Rattle.wire.specs.Answer.{done}
 use Rattle.promises.specs.History.{Call, adds, removes, shows, sends, asks, isDone, keyRead, keyOf, isAdding, Carries, no-more, next, tableVerdicts, lentVerdicts, rightNumber, answered}

@@ -13,11 +13,11 @@ use lib.Count.{ones, ones-cat}
 use Rattle.wire.specs.Tests.{if_then_else_}
 use Rattle.wire.specs.Answer.{Answer, refused, done}
 use Rattle.wire.proofs.Tests.{clash, neither, by-test}
-use Rattle.sequence.specs.declared.receive.Receive.{Receive}
-use Rattle.sequence.specs.declared.receive.Judged.{Judged}
-use Rattle.sequence.specs.declared.receive.Verdict.the-variants.{Accepted, Refused}
-use Rattle.sequence.specs.Receive.{fresh, bit, behind, acceptedBefore, shifted, taken, judged, answer}
-use Rattle.sequence.proofs.Bits.{set-lt, set-same, set-other, shl-low, shl-high}
+use Rattle.receive.specs.declared.Receive.{Receive}
+use Rattle.receive.specs.declared.Judged.{Judged}
+use Rattle.receive.specs.declared.Verdict.the-variants.{Accepted, Refused}
+use Rattle.receive.specs.Receive.{fresh, bit, behind, acceptedBefore, shifted, taken, judged, answer}
+use Rattle.receive.proofs.Bits.{set-lt, set-same, set-other, shl-low, shl-high}
 use Rattle.promises.specs.History.{isDone, highest, member, one, sum, recent, rightNumber}
 
 -- the record shows the accepted numbers h

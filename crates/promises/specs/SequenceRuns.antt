@@ -10,11 +10,11 @@ use lib.ListN.{length, getD}
 use lib.Dec.{eqb, leb}
 use Rattle.wire.specs.Tests.{if_then_else_}
 use Rattle.wire.proofs.Tests.{never, clash, by-test}
-use Rattle.sequence.specs.declared.packets.Packet.{Packet}
-use Rattle.sequence.specs.declared.packets.Packet.the-variants.{Read, Refused}
+use Rattle.packets.specs.declared.Packet.{Packet}
+use Rattle.packets.specs.declared.Packet.the-variants.{Read, Refused}
 use Rattle.sequence.specs.declared.table.Key.{Key}
-use Rattle.sequence.specs.Receive.{answer}
-use Rattle.sequence.specs.Packets.{read}
+use Rattle.receive.specs.Receive.{answer}
+use Rattle.packets.specs.Packets.{read}
 use Rattle.sequence.specs.Table.{empty}
 use Rattle.wire.specs.Answer.{refused, done}
 use Rattle.promises.specs.History.{Call, adds, removes, shows, sends, asks, Event, isDone, same, keyRead, numberRead, keyOf, Distinct, countdown, Deed, begins, ends, accepts, hands, none, deed, lives, accepted, acceptedAfter, handed, handedAfter, highest, member, rightNumber, rightPacket, right, answered, answeredAll, rightAll}

@@ -19,7 +19,7 @@ use Rattle.message.specs.declared.Payload.{Payload}
 use Rattle.message.specs.declared.Message.{Message}
 use Rattle.sets.specs.Parts.{setEnd, firstSet, afterSet, numbered, setNumbered}
 use Rattle.sets.specs.declared.ProposalNumber.{ProposalNumber}
-use Rattle.policy.specs.Book.{mainCount, quickStart, quickCount, bookSize, bookInFront, mainLinesLawful, quickLinesLawful}
+use Rattle.book.specs.Book.{mainCount, quickStart, quickCount, bookSize, bookInFront, mainLinesLawful, quickLinesLawful}
 use Rattle.policy.specs.Choice.{bodyAt, chooseFrom}
 use Rattle.policy.specs.declared.LineNumber.{LineNumber}
 use Rattle.policy.specs.declared.Transforms.{Transforms}

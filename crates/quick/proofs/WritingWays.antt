@@ -11,10 +11,10 @@ use Rattle.wire.specs.Wire.{bytesOf, head, headed, paste, put}
 use Rattle.wire.specs.Tests.{if_then_else_}
 use Rattle.wire.proofs.Tests.{by-test}
 use Rattle.wire.proofs.Laws.{two-bytes, length-bytesOf, length-head, length-headed, paste-append, paste-before, put-size, put-after, put-before}
-use Rattle.policy.specs.Book.{quickCount, quickProtocols, quickMode, quickSeconds}
-use Rattle.policy.specs.Suits.{quickId}
-use Rattle.policy.specs.Reply.{ownSpi, proposalOf, setReply, saOf}
-use Rattle.policy.proofs.ReplyWays.{proposal-size, set-size, sa-size, sa-written}
+use Rattle.book.specs.Book.{quickCount, quickProtocols, quickMode, quickSeconds}
+use Rattle.suits.specs.Suits.{quickId}
+use Rattle.reply.specs.Reply.{ownSpi, proposalOf, setReply, saOf}
+use Rattle.reply.proofs.ReplyWays.{proposal-size, set-size, sa-size, sa-written}
 use Rattle.policy.specs.declared.Transforms.{Transforms}
 use Rattle.quick.specs.Messages.{bookOf, nonceOf, fixed, integrity, attributes, transformOne, lineProposal, lineSet, nextSet, lineSets, lines, offerOf, hash, padding, padded, header, messageOf, around, nonceAndIdentities, proposalsOf, longer, messageThree}
 use Rattle.quick.specs.declared.Own.{Own}

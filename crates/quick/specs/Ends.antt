@@ -11,7 +11,7 @@ use Rattle.identity.specs.Identity.{identity}
 use Rattle.message.specs.Message.{message}
 use Rattle.sets.specs.Parts.{setNumbered}
 use Rattle.sets.specs.declared.ProposalNumber.{ProposalNumber}
-use Rattle.policy.specs.Book.{bookInFront, bookSize}
+use Rattle.book.specs.Book.{bookInFront, bookSize}
 use Rattle.policy.specs.Choice.{bodyAt, chooseFrom}
 use Rattle.policy.specs.declared.Transforms.{Transforms}
 use Rattle.policy.specs.declared.Transforms.the-variants.{One}

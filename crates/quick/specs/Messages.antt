@@ -6,9 +6,9 @@ use lib.ListN.{length, take, replicate}
 use lib.Dec.{leb, eqb}
 use Rattle.wire.specs.Wire.{bytesOf, headed, paste}
 use Rattle.wire.specs.Tests.{if_then_else_}
-use Rattle.policy.specs.Book.{quickCount, quickProtocols, quickMode, quickSeconds}
-use Rattle.policy.specs.Suits.{quickId}
-use Rattle.policy.specs.Reply.{ownSpi, proposalOf, setReply, saOf}
+use Rattle.book.specs.Book.{quickCount, quickProtocols, quickMode, quickSeconds}
+use Rattle.suits.specs.Suits.{quickId}
+use Rattle.reply.specs.Reply.{ownSpi, proposalOf, setReply, saOf}
 use Rattle.policy.specs.declared.Transforms.{Transforms}
 use Rattle.quick.specs.declared.Own.{Own}
 use Rattle.quick.specs.declared.Proposals.{Proposals}

@@ -1,15 +1,15 @@
 // Writing the messages. What is lent for them has room: no message that an end writes is longer than 2,048 bytes.
 use crate::Own;
 use crate::Proposals;
+use book::quick_count;
+use book::quick_mode;
+use book::quick_protocols;
+use book::quick_seconds;
 use policy::Transforms;
-use policy::lines::quick_count;
-use policy::lines::quick_mode;
-use policy::lines::quick_protocols;
-use policy::lines::quick_seconds;
-use policy::replies::put_proposal;
-use policy::replies::put_reply;
-use policy::suits::quick_id;
+use reply::put_proposal;
+use reply::put_reply;
 use sets::ProposalNumber;
+use suits::quick_id;
 use wire::front;
 use wire::put_be32;
 use wire::put_bytes;
@@ -19,7 +19,7 @@ ghost use mathlib.Core.Path.{_≡_};
 ghost use Prim.Native.Nat.{min, _+_, _*_, _≤_};
 ghost use lib.ListN.{length, replicate};
 ghost use Rattle.wire.specs.Wire.{bytesOf, paste, put};
-ghost use Rattle.policy.specs.Reply.{saOf};
+ghost use Rattle.reply.specs.Reply.{saOf};
 ghost use Rattle.quick.specs.Messages.{padding, lineProposal, lineSet, nextSet, lineSets, lines, bookOf, nonceOf, offerOf, header, around, nonceAndIdentities, proposalsOf, longer, messageThree};
 
 // How many zero bytes a message's payloads are padded with.

@@ -1,153 +1,28 @@
 -- A law for each way out of this crate's functions: what the definitions say under the tests that the code makes.
-use Prim.Native.Nat.{ℕ, suc, _+_, _-_, _*_, _/_, _%_, _^_, _≤_, _<_, min}
-use mathlib.Core.Path.{_≡_, sym, ap, _∙_}
+use Prim.Native.Nat.{ℕ, suc, _+_, _-_, _*_, _≤_, _<_}
+use mathlib.Core.Path.{_≡_, sym, _∙_}
 use mathlib.Core.List.{List}
 use mathlib.Core.Bool.{Bool, true, false, not, _&&_}
-use native.Mathlib.Nat.{max-eq-left, max-eq-right, sub-self, mul-one, one-mul, mod-eq-of-lt, mod-lt, le-of-lt}
 use native.Mathlib.Omega.{arith}
-use lib.ListN.{length, getD, set}
-use lib.Dec.{ltb, leb, eqb, lit<}
-use lib.Count.{ones}
-use lib.Pow.{pow-lt, pow-pos}
-use borrow.Author.Tests.{lt-ltb, le-ltb, le-leb, lt-leb, eq-eqb, ne-eqb, eqb-false, leb-false}
-use Rattle.wire.specs.Wire.{numberAt}
+use lib.ListN.{getD, set}
+use lib.Dec.{eqb}
+use borrow.Author.Tests.{lt-ltb, le-ltb, le-leb, lt-leb, eq-eqb, ne-eqb}
 use Rattle.wire.specs.Tests.{if_then_else_}
-use Rattle.wire.proofs.Tests.{neither, by-test}
-use Rattle.sequence.specs.Receive.{fresh, bit, behind, acceptedBefore, shifted, taken, judged, lossLine}
-use Rattle.sequence.specs.declared.receive.Receive.{Receive}
-use Rattle.sequence.specs.declared.receive.Judged.{Judged}
-use Rattle.sequence.specs.declared.receive.Verdict.the-variants.{Accepted, Refused}
-use Rattle.sequence.specs.Packets.{known, ah, esp, read}
-use Rattle.sequence.specs.declared.packets.Packet.{Packet}
-use Rattle.sequence.specs.declared.packets.Packet.the-variants as P
+use Rattle.receive.specs.Receive.{fresh, judged, lossLine}
+use Rattle.receive.specs.declared.Receive.{Receive}
+use Rattle.receive.specs.declared.Judged.{Judged}
+use Rattle.receive.specs.declared.Verdict.the-variants.{Refused}
+use Rattle.packets.specs.Packets.{known, read}
+use Rattle.packets.specs.declared.Packet.{Packet}
+use Rattle.packets.specs.declared.Packet.the-variants as P
 use Rattle.sequence.specs.Table.{holds, isFree, first, find, free, entryAt, putEntry, putKey, emptied, added, removed, judgedAt, packetRead, packet, handedOut, sent, loss}
-use Rattle.sequence.specs.declared.receive.Verdict.the-variants as Y
-use Rattle.sequence.specs.declared.receive.LossLine.{LossLine}
+use Rattle.receive.specs.declared.Verdict.the-variants as Y
+use Rattle.receive.specs.declared.LossLine.{LossLine}
 use Rattle.sequence.specs.declared.table.Key.{Key}
 use Rattle.sequence.specs.declared.table.Entry.{Entry}
 use Rattle.sequence.specs.declared.table.Outcome.the-variants as O
 use Rattle.sequence.specs.declared.table.Sending.the-variants as S
 use Rattle.sequence.specs.declared.table.Counted.the-variants as C
-use Rattle.sequence.proofs.Bits.{set-lt, shl-low}
-
--- ---- the receive record
-
-pub far : (w places : ℕ) → 64 ≤ places → 0 ≡ shifted w places
-far w places h = rw (le-ltb places 64 h)
-
-pub near : (w places : ℕ) → places < 64 → w * 2 ^ places % 2 ^ 64 ≡ shifted w places
-near w places h = rw (lt-ltb places 64 h)
-
-one-shl : (k : ℕ) → k < 64 → 1 * 2 ^ k % 2 ^ 64 ≡ 2 ^ k
-one-shl k h = ap (λ (x : ℕ). x % 2 ^ 64) (one-mul (2 ^ k)) ∙ mod-eq-of-lt (pow-lt h)
-
--- a digit that is not 1 is 0
-not-one : (x : ℕ) → (x % 2 ≡ 1 → ⊥) → x % 2 ≡ 0
-not-one x h = omega arith
-
-shifted-lt : (w d : ℕ) → shifted w d < 2 ^ 64
-shifted-lt w d = by-test (ltb d 64) (λ e. rw e (mod-lt (w * 2 ^ d) (pow-pos 64))) (λ e. rw e (lit< tt))
-
-shifted-even : (w d : ℕ) → 0 < d → bit (shifted w d) 0 ≡ 0
-shifted-even w d h = by-test (ltb d 64) (λ e. rw e (shl-low 64 d 0 w (lit< tt) h)) (λ e. rw e)
-
-module _ (r : Receive) (n : ℕ) (whole : Bool) where
-  -- a number above the highest: neither behind the window nor accepted before
-  module _ (l : r .highest < n) where
-    ahead : behind (r .highest) n ≡ false
-    ahead = let d : n ≡ 0 → ⊥ = omega arith in rw (ne-eqb n 0 d, lt-leb (n + 64) (r .highest) (omega arith))
-
-    unseen : acceptedBefore r n ≡ false
-    unseen = rw (lt-leb n (r .highest) l)
-
-    pub above-broken : not whole ≡ true → record { receive = r; verdict = Refused 24 } ≡ judged r n whole
-    unfolding judged
-    above-broken h = rw (ahead, unseen, h)
-
-    module _ (s : ℕ) (es : s ≡ shifted (r .window) (n - r .highest)) where
-      pub above-fits : s + 1 < 2 ^ 64
-      above-fits = rw es (set-lt 64 0 (shifted (r .window) (n - r .highest)) (lit< tt) (shifted-lt (r .window) (n - r .highest)) (shifted-even (r .window) (n - r .highest) (omega arith)))
-
-      above-taken : record { highest = n; window = s + 1 } ≡ taken r n
-      above-taken = rw (es, max-eq-left (le-of-lt l), sub-self n)
-
-      pub above-accepted : not whole ≡ false → record { receive = record { highest = n; window = s + 1 }; verdict = Accepted } ≡ judged r n whole
-      unfolding judged
-      above-accepted h = rw (ahead, unseen, h, above-taken)
-
-  -- a number that is not above it
-  module _ (l : n ≤ r .highest) (b : Bool) (eb : b ≡ behind (r .highest) n) where
-    pub refused-behind : b ≡ true → record { receive = r; verdict = Refused 8197 } ≡ judged r n whole
-    unfolding judged
-    refused-behind h = rw (← eb, h)
-
-    module _ (live : b ≡ false) where
-      pub within : r .highest - n < 64
-      within = omega (arith, leb-false (n + 64) (r .highest) (neither (eqb n 0) (leb (n + 64) (r .highest)) (sym eb ∙ live) .1))
-
-      pub refused-again : eqb (bit (r .window) (r .highest - n)) 1 ≡ true → record { receive = r; verdict = Refused 8194 } ≡ judged r n whole
-      unfolding judged
-      refused-again h = rw (← eb, live, le-leb n (r .highest) l, h)
-
-      module _ (unmarked : eqb (bit (r .window) (r .highest - n)) 1 ≡ false) where
-        pub refused-broken : not whole ≡ true → record { receive = r; verdict = Refused 24 } ≡ judged r n whole
-        unfolding judged
-        refused-broken h = rw (← eb, live, le-leb n (r .highest) l, unmarked, h)
-
-        clear : bit (r .window) (r .highest - n) ≡ 0
-        clear = not-one (r .window / 2 ^ (r .highest - n)) (eqb-false (bit (r .window) (r .highest - n)) 1 unmarked)
-
-        module _ (f : r .window < 2 ^ 64) where
-          pub late-fits : r .window + 1 * 2 ^ (r .highest - n) % 2 ^ 64 < 2 ^ 64
-          late-fits = rw (one-shl (r .highest - n) within) (set-lt 64 (r .highest - n) (r .window) within f clear)
-
-          late-taken : record { highest = r .highest; window = r .window + 1 * 2 ^ (r .highest - n) % 2 ^ 64 } ≡ taken r n
-          late-taken = rw (max-eq-right l, sub-self (r .highest), one-shl (r .highest - n) within, mul-one (r .window), mod-eq-of-lt f)
-
-          pub late-accepted : not whole ≡ false →
-              record { receive = record { highest = r .highest; window = r .window + 1 * 2 ^ (r .highest - n) % 2 ^ 64 }; verdict = Accepted } ≡ judged r n whole
-          unfolding judged
-          late-accepted h = rw (← eb, live, le-leb n (r .highest) l, unmarked, h, late-taken)
-
-pub line-read : (r : Receive) (s : ℕ) → s ≡ min (r .highest) 64 → record { highest = r .highest; span = s; count = ones (r .window) } ≡ lossLine r
-line-read r s e = rw e
-
--- ---- packets
-
-module _ (s : List ℕ) (l z : ℕ) (el : l ≡ getD s 1 0) (ez : z ≡ numberAt 2 s 2) where
-  pub ah-read : (leb 12 (length s) && eqb z 0 && leb 12 ((l + 2) * 4) && leb ((l + 2) * 4) (length s)) ≡ true →
-      (a n : ℕ) → a ≡ numberAt 4 s 4 → n ≡ numberAt 4 s 8 → P.Read a n ≡ ah s
-  unfolding ah
-  ah-read h a n ea en = rw (← el, ← ez, h, ea, en)
-
-  pub ah-refused : (leb 12 (length s) && eqb z 0 && leb 12 ((l + 2) * 4) && leb ((l + 2) * 4) (length s)) ≡ false → P.Refused 16 ≡ ah s
-  unfolding ah
-  ah-refused h = rw (← el, ← ez, h)
-
-module _ (s : List ℕ) where
-  pub esp-read : 8 ≤ length s → (a n : ℕ) → a ≡ numberAt 4 s 0 → n ≡ numberAt 4 s 4 → P.Read a n ≡ esp s
-  unfolding esp
-  esp-read h a n ea en = rw (le-leb 8 (length s) h, ea, en)
-
-  pub esp-refused : length s < 8 → P.Refused 16 ≡ esp s
-  unfolding esp
-  esp-refused h = rw (lt-leb 8 (length s) h)
-
-  module _ (protocol : ℕ) (k : Bool) (ek : k ≡ known protocol) where
-    pub read-unknown : not k ≡ true → P.Refused 10 ≡ read protocol s
-    unfolding read
-    read-unknown h = rw (← ek, h)
-
-    module _ (h : not k ≡ false) (p : Packet) where
-      pub read-ah : protocol ≡ 2 → p ≡ ah s → p ≡ read protocol s
-      unfolding read
-      read-ah e ep = rw (← ek, h, eq-eqb protocol 2 e) ep
-
-      pub read-esp : (protocol ≡ 2 → ⊥) → p ≡ esp s → p ≡ read protocol s
-      unfolding read
-      read-esp e ep = rw (← ek, h, ne-eqb protocol 2 e) ep
-
--- ---- rooms
 
 module _ (t : List ℕ) (key : Key) (i : ℕ) where
   pub holds-spi : getD t (i * 6 + 2) 0 ≡ key .spi → (eqb (getD t (i * 6) 0) (key .protocol + 1) && eqb (getD t (i * 6 + 1) 0) (key .destination)) ≡ holds t key i

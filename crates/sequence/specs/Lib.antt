@@ -1,3 +1,1 @@
-pub mod Receive
-pub mod Packets
 pub mod Table

@@ -7,11 +7,11 @@ use lib.ListN.{getD, set, replicate}
 use lib.Dec.{ltb, leb, eqb}
 use Rattle.wire.specs.Tests.{if_then_else_}
 use Rattle.wire.specs.Answer.{Answer}
-use Rattle.sequence.specs.declared.receive.Verdict.{Verdict}
-use Rattle.sequence.specs.declared.receive.Verdict.the-variants as Y
-use Rattle.sequence.specs.declared.receive.Judged.{Judged}
-use Rattle.sequence.specs.declared.packets.Packet.{Packet}
-use Rattle.sequence.specs.declared.packets.Packet.the-variants as P
+use Rattle.receive.specs.declared.Verdict.{Verdict}
+use Rattle.receive.specs.declared.Verdict.the-variants as Y
+use Rattle.receive.specs.declared.Judged.{Judged}
+use Rattle.packets.specs.declared.Packet.{Packet}
+use Rattle.packets.specs.declared.Packet.the-variants as P
 use Rattle.sequence.specs.declared.table.Key.{Key}
 use Rattle.sequence.specs.declared.table.Entry.{Entry}
 use Rattle.sequence.specs.declared.table.Outcome.{Outcome}
@@ -20,8 +20,8 @@ use Rattle.sequence.specs.declared.table.Sending.{Sending}
 use Rattle.sequence.specs.declared.table.Sending.the-variants as S
 use Rattle.sequence.specs.declared.table.Counted.{Counted}
 use Rattle.sequence.specs.declared.table.Counted.the-variants as C
-use Rattle.sequence.specs.Receive.{fresh, judged, lossLine}
-use Rattle.sequence.specs.Packets.{known, read}
+use Rattle.receive.specs.Receive.{fresh, judged, lossLine}
+use Rattle.packets.specs.Packets.{known, read}
 
 -- ---- rooms
 

@@ -1,14 +1,14 @@
 // The table of 64 SA entries, in words that the caller lends; all words zero is the empty table. Any words at all get an answer.
 //   a room  mark (0: free, else the protocol plus 1), destination, SPI, highest, window, sent
-use crate::packets::Packet;
-use crate::packets::known;
-use crate::packets::read;
-use crate::receive::LossLine;
-use crate::receive::Receive;
-use crate::receive::Verdict;
-use crate::receive::fresh;
-use crate::receive::loss_line;
-use crate::receive::step;
+use packets::Packet;
+use packets::known;
+use packets::read;
+use receive::LossLine;
+use receive::Receive;
+use receive::Verdict;
+use receive::fresh;
+use receive::loss_line;
+use receive::step;
 ghost use mathlib.Core.Path.{_≡_};
 ghost use Prim.Native.Nat.{_<_};
 ghost use Rattle.sequence.specs.Table.{rooms, holds, find, free, entryAt, putEntry, putKey, added, removed, packet, sent, loss};

@@ -18,11 +18,11 @@ fn main() {
 }
 
 fn verdict(s: &[u8]) {
-    if !policy::lines::book_in_front(s) {
+    if !book::book_in_front(s) {
         refused(8193);
         return;
     }
-    let size = policy::lines::book_size(s) as usize;
+    let size = book::book_size(s) as usize;
     let book = front(s, size);
     let m = after(s, size);
     let read = message::read(m);

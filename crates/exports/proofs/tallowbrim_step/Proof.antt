@@ -34,17 +34,17 @@ use denote.Triple.Table.{entered, cited}
 use denote.Triple.Walked.{says, Stays, gave-ref, stay-none, walkOf, AllGo, goes-none, goes-gave-ref, Walks, ends-at, walked, walk-meets}
 use denote.Exit.{yes}
 use denote.Triple.Clauses.{ensured, lasts}
-use Rattle.sequence.specs.declared.receive.Receive.{Receive}
-use Rattle.sequence.specs.declared.receive.Judged.{Judged}
-use Rattle.sequence.specs.declared.receive.Verdict.{Verdict}
-use Rattle.sequence.specs.Receive.{judged}
-use Rattle.sequence.proofs.receive.Receive as T
-use Rattle.sequence.proofs.receive.Verdict as E
-use Rattle.sequence.proofs.receive.Verdict.Laws as E′
-use Rattle.sequence.proofs.receive.step_in_place as place
-use Rattle.sequence.proofs.receive.step_in_place.Symbol as place-def
-use Rattle.sequence.proofs.receive.step_in_place.Symbol.{name as #place}
-use Rattle.sequence.proofs.receive.step_in_place.Met as place-thm
+use Rattle.receive.specs.declared.Receive.{Receive}
+use Rattle.receive.specs.declared.Judged.{Judged}
+use Rattle.receive.specs.declared.Verdict.{Verdict}
+use Rattle.receive.specs.Receive.{judged}
+use Rattle.receive.proofs.Receive as T
+use Rattle.receive.proofs.Verdict as E
+use Rattle.receive.proofs.Verdict.Laws as E′
+use Rattle.receive.proofs.step_in_place as place
+use Rattle.receive.proofs.step_in_place.Symbol as place-def
+use Rattle.receive.proofs.step_in_place.Symbol.{name as #place}
+use Rattle.receive.proofs.step_in_place.Met as place-thm
 use Rattle.exports.specs.Exports.{verdictPacked, judgedPacked}
 use Rattle.exports.proofs.verdict_packed as packing
 use Rattle.exports.proofs.verdict_packed.Symbol as packing-def
@@ -156,5 +156,5 @@ tallowbrim-step-spec 𝓤 H 𝓜 𝓖 𝓡 =
     entered 𝓤 H (tripleOf 𝓤 H (𝓖 .A) outside.signature (outside.spec 𝓤 H (𝓖 .A) (𝓜 .mem) (𝓡 .run)))
     (tables 𝓤 H 𝓜 𝓡 code.env .C) (tables 𝓤 H 𝓜 𝓡 code.env .Λ) #step code.function (code.unfolded 𝓤 H 𝓜 𝓡)
     (outside-meets 𝓤 H (𝓖 .A) (givenOf 𝓤 H 𝓜 𝓖) (𝓜 .mem) (𝓡 .run) (tablesOf 𝓤 H 𝓜 (tables 𝓤 H 𝓜 𝓡 code.env))
-    (cited 𝓤 H (Called 𝓤 H (𝓖 .A) (𝓜 .mem) (𝓡 .run)) 𝓜 𝓡 code.env #place place-def.routine code.calls-sequence·receive·step-in-place (place-thm.met 𝓤 H 𝓜 𝓖 𝓡))
+    (cited 𝓤 H (Called 𝓤 H (𝓖 .A) (𝓜 .mem) (𝓡 .run)) 𝓜 𝓡 code.env #place place-def.routine code.calls-receive·step-in-place (place-thm.met 𝓤 H 𝓜 𝓖 𝓡))
     (cited 𝓤 H (Packing 𝓤 H (𝓖 .A) (𝓜 .mem) (𝓡 .run)) 𝓜 𝓡 code.env #packing packing-def.routine code.calls-exports·verdict-packed (packing-thm.met 𝓤 H 𝓜 𝓖 𝓡)))

@@ -2,8 +2,8 @@
 use Prim.Native.Nat.{ℕ}
 use mathlib.Core.Path.{_≡_, sym, ap}
 use borrow.Author.Needs.{needs}
-use Rattle.sequence.specs.declared.receive.Verdict.{Verdict}
-use Rattle.sequence.specs.declared.receive.Verdict.the-variants as Y
+use Rattle.receive.specs.declared.Verdict.{Verdict}
+use Rattle.receive.specs.declared.Verdict.the-variants as Y
 use Rattle.exports.specs.Exports.{verdictPacked}
 use Rattle.exports.proofs.verdict_packed.Statement.{statement}
 use Rattle.exports.proofs.verdict_packed.Tie as tie

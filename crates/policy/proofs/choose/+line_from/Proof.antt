@@ -7,7 +7,7 @@ use borrow.Fn.PlainCycle.{Measures, is, falls, and}
 use Rattle.policy.proofs.choose.line_from.Reads as line-from
 use Rattle.policy.proofs.choose.line_from.Kinds as line-from-kinds
 use Rattle.policy.proofs.choose.+line_from.Lts-line_from as line-from-lts
-use Rattle.policy.proofs.suits.set_suits.Reads as set-suits-reads
+use Rattle.suits.proofs.set_suits.Reads as set-suits-reads
 use Rattle.policy.proofs.choose.+line_from.{statement}
 use Rattle.policy.proofs.choose.+line_from.Tie.{close}
 

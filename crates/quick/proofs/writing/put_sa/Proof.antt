@@ -1,5 +1,5 @@
 use native.Mathlib.Omega.{arith}
-use Rattle.policy.proofs.ReplyWays.{reply-fits}
+use Rattle.reply.proofs.ReplyWays.{reply-fits}
 use Rattle.quick.proofs.WritingWays.{sa-offer, sa-reply}
 use borrow.Author.Needs.{needs}
 use Rattle.quick.proofs.writing.put_sa.Statement.{statement}

@@ -1,8 +1,0 @@
-use Rattle.policy.specs.Reply.{choiceRefusal}
-use borrow.Author.Needs.{needs}
-use Rattle.policy.proofs.replies.refusal.Statement.{statement}
-use Rattle.policy.proofs.replies.refusal.Tie as tie
-
-pub refusal-spec : {M : Type 1} → statement M
-unfolding choiceRefusal
-refusal-spec = tie.close (tie.spec (λ c. search needs) (λ c. search needs) (λ c. cc) (λ c. cc))

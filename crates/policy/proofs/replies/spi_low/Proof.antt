@@ -1,8 +1,0 @@
-use borrow.Author.Needs.{needs}
-use Rattle.policy.specs.Reply.{spiLow}
-use Rattle.policy.proofs.replies.spi_low.Statement.{statement}
-use Rattle.policy.proofs.replies.spi_low.Tie as tie
-
-pub spi-low-spec : {M : Type 1} → statement M
-unfolding spiLow
-spi-low-spec = tie.close (tie.spec (λ c. cc))

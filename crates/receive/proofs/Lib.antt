@@ -1,0 +1,2 @@
+pub mod Bits
+mod Ways

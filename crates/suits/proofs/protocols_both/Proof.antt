@@ -1,0 +1,16 @@
+use Rattle.suits.specs.Suits.{protocolsBoth}
+use borrow.Author.Needs.{needs}
+use Rattle.suits.proofs.protocols_both.Statement.{statement}
+use Rattle.suits.proofs.protocols_both.Tie as tie
+
+pub protocols-both-spec : {M : Type 1} → statement M
+unfolding protocolsBoth
+protocols-both-spec =
+    tie.close
+    (tie.spec
+    (λ c κs. search needs)
+    (λ c κs. search needs)
+    (λ c κs. search needs)
+    (λ c κs. search needs)
+    (λ c κs. search needs)
+    (λ c. cc))

@@ -1,0 +1,171 @@
+// Which transform, and which set, suits which line of the book.
+use attribute::attribute;
+use attribute::attribute_count;
+use attribute::value;
+use book::main_seconds;
+use book::quick_mode;
+use book::quick_protocols;
+use book::quick_seconds;
+use sets::attributes_of;
+use sets::proposal;
+use sets::proposal_count;
+use sets::protocol;
+use sets::transform;
+use sets::transform_count;
+use sets::transform_id;
+ghost use mathlib.Core.Path.{_≡_};
+ghost use Prim.Native.Nat.{_+_, _≤_};
+ghost use Rattle.suits.specs.Suits.{valueIs, lifeWithin, nothingSurplus, mainValues, mainSuits, quickId, quickIntegrity, quickSuits, transformSuits, lowestFrom, lowest, protocolsAlone, protocolsBoth, protocolsSuit, setSuits};
+
+fn value_is(kind: u16, wanted: u32, attributes: &[u8]) -> bool
+    ensures { λ r. ⌜ r ≡ valueIs kind wanted (now (attributes .entry)) ⌝ }
+{
+    let found = attribute(kind, attributes);
+    (4 <= found.len()) & (value(found) == wanted)
+}
+
+fn life_within(kind: u16, longest: u32, attributes: &[u8]) -> bool
+    ensures { λ r. ⌜ r ≡ lifeWithin kind longest (now (attributes .entry)) ⌝ }
+{
+    let found = attribute(kind, attributes);
+    let life = value(found);
+    (4 <= found.len()) & (1 <= life) & (life <= longest)
+}
+
+fn nothing_surplus(wanted: u8, attributes: &[u8]) -> bool
+    ensures { λ r. ⌜ r ≡ nothingSurplus wanted (now (attributes .entry)) ⌝ }
+{
+    attribute_count(attributes) == wanted
+}
+
+fn main_values(attributes: &[u8]) -> bool
+    ensures { λ r. ⌜ r ≡ mainValues (now (attributes .entry)) ⌝ }
+{
+    value_is(1, 129, attributes)
+        & value_is(2, 20, attributes)
+        & value_is(3, 10, attributes)
+        & value_is(20, 2, attributes)
+        & value_is(11, 1, attributes)
+}
+
+fn main_suits(seconds: u32, t: &[u8]) -> bool
+    ensures { λ r. ⌜ r ≡ mainSuits seconds (now (t .entry)) ⌝ }
+{
+    let attributes = attributes_of(t);
+    (transform_id(t) == 1)
+        & main_values(attributes)
+        & life_within(12, seconds, attributes)
+        & nothing_surplus(6, attributes)
+}
+
+pub fn quick_id(protocol: u8) -> u8
+    ensures { λ r. ⌜ r ≡ quickId protocol ⌝ }
+{
+    if protocol == 2 { 20 } else { 129 }
+}
+
+fn quick_integrity(protocols: u8, protocol: u8, attributes: &[u8]) -> bool
+    ensures { λ r. ⌜ r ≡ quickIntegrity protocols protocol (now (attributes .entry)) ⌝ }
+{
+    if (protocols == 2) & (protocol == 3) {
+        nothing_surplus(3, attributes)
+    } else {
+        value_is(5, 20, attributes) & nothing_surplus(4, attributes)
+    }
+}
+
+fn quick_suits(protocols: u8, mode: u8, seconds: u32, protocol: u8, t: &[u8]) -> bool
+    ensures { λ r. ⌜ r ≡ quickSuits protocols mode seconds protocol (now (t .entry)) ⌝ }
+{
+    let attributes = attributes_of(t);
+    if transform_id(t) != quick_id(protocol) {
+        return false;
+    }
+    // Lines differ most in their seconds, so the life is asked first.
+    if !life_within(2, seconds, attributes) {
+        return false;
+    }
+    if !value_is(4, mode as u32, attributes) {
+        return false;
+    }
+    if !value_is(1, 1, attributes) {
+        return false;
+    }
+    quick_integrity(protocols, protocol, attributes)
+}
+
+// Whether transform k of a proposal suits line i of the exchange, both counted from 0.
+fn transform_suits(exchange: u8, i: u8, book: &[u8], p: &[u8], k: u8) -> bool
+    ensures { λ r. ⌜ r ≡ transformSuits exchange i (now (book .entry)) (now (p .entry)) k ⌝ }
+{
+    if exchange == 2 {
+        return main_suits(main_seconds(i, book), transform(k, p));
+    }
+    quick_suits(
+        quick_protocols(i, book),
+        quick_mode(i, book),
+        quick_seconds(i, book),
+        protocol(p),
+        transform(k, p),
+    )
+}
+
+fn lowest_from(n: u8, k: u8, exchange: u8, i: u8, book: &[u8], p: &[u8]) -> u8
+    requires { ⌜ n + k ≤ 255 ⌝ }
+    ensures { λ r. ⌜ r ≡ lowestFrom n k exchange i (now (book .entry)) (now (p .entry)) ⌝ }
+{
+    if n == 0 {
+        return 0;
+    }
+    if transform_suits(exchange, i, book, p, k) {
+        return k + 1;
+    }
+    lowest_from(n - 1, k + 1, exchange, i, book, p)
+}
+
+// The lowest transform of a proposal that suits a line, counted from 1; 0 where none does.
+pub fn lowest(exchange: u8, i: u8, book: &[u8], p: &[u8]) -> u8
+    ensures { λ r. ⌜ r ≡ lowest exchange i (now (book .entry)) (now (p .entry)) ⌝ }
+{
+    lowest_from(transform_count(p), 0, exchange, i, book, p)
+}
+
+fn protocols_alone(wanted: u8, set: &[u8]) -> bool
+    ensures { λ r. ⌜ r ≡ protocolsAlone wanted (now (set .entry)) ⌝ }
+{
+    (proposal_count(set) == 1) & (protocol(proposal(0, set)) == wanted)
+}
+
+fn protocols_both(set: &[u8]) -> bool
+    ensures { λ r. ⌜ r ≡ protocolsBoth (now (set .entry)) ⌝ }
+{
+    let first = protocol(proposal(0, set));
+    let second = protocol(proposal(1, set));
+    (proposal_count(set) == 2) & ((first == 2) & (second == 3) | (first == 3) & (second == 2))
+}
+
+fn protocols_suit(exchange: u8, i: u8, book: &[u8], set: &[u8]) -> bool
+    ensures { λ r. ⌜ r ≡ protocolsSuit exchange i (now (book .entry)) (now (set .entry)) ⌝ }
+{
+    if exchange == 2 {
+        return protocols_alone(1, set);
+    }
+    if quick_protocols(i, book) == 1 {
+        protocols_alone(3, set)
+    } else {
+        protocols_both(set)
+    }
+}
+
+// Whether a set suits line i of the exchange, counted from 0.
+pub fn set_suits(exchange: u8, i: u8, book: &[u8], set: &[u8]) -> bool
+    ensures { λ r. ⌜ r ≡ setSuits exchange i (now (book .entry)) (now (set .entry)) ⌝ }
+{
+    if !protocols_suit(exchange, i, book, set) {
+        return false;
+    }
+    if lowest(exchange, i, book, proposal(0, set)) == 0 {
+        return false;
+    }
+    (proposal_count(set) == 1) | (1 <= lowest(exchange, i, book, proposal(1, set)))
+}
