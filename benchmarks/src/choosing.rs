@@ -22,8 +22,8 @@ mod exports {
 pub fn ratio() -> f64 {
     let [mut lives, mut seconds] = [[LIFE + 1; 8], [LIFE - 1; 8]];
     (lives[7], seconds[7]) = (LIFE, LIFE);
-    let ratio = compare("last set, last line", &samples::eight_lines(seconds), &samples::eight_sets(lives));
-    compare("first set, first line", &samples::eight_lines([LIFE; 8]), &samples::eight_sets([LIFE; 8]));
+    let ratio = compare("last set, last line", &samples::lines(&seconds), &samples::eight_sets(lives));
+    compare("first set, first line", &samples::lines(&[LIFE; 8]), &samples::eight_sets([LIFE; 8]));
     ratio
 }
 

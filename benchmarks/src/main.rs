@@ -1,7 +1,8 @@
-//! Times the proved core from one caller: the reading of messages and the choice against the second program, and packets and steps against
-//! a window in Rust and one in C.
+//! Times the proved core from one caller: the reading of messages, the choice and a whole exchange against the second program, and
+//! packets and steps against a window in Rust and one in C.
 
 mod choosing;
+mod exchange;
 mod readers;
 mod samples;
 mod sequence;
@@ -23,6 +24,9 @@ fn main() {
     compare("quick mode, refused at its last byte", &samples::refused_at_its_last_byte());
     println!("Nanoseconds a choice, book and message read each time.");
     let choosing = choosing::ratio();
+    println!("Nanoseconds an exchange, from two fresh ends to both open.");
+    let exchange = exchange::ratio();
+    println!("exchange ratio {exchange:.2}");
     println!("record ratio {record}");
     println!("table ratio {table}");
     println!("choosing ratio {choosing:.2}");

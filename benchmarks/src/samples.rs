@@ -48,9 +48,9 @@ pub fn eight_sets(lives: [u32; 8]) -> Vec<u8> {
     quick_mode_with(sa(&proposals))
 }
 
-/// A book of eight quick lines of AH with ESP in mode 1, each with its longest seconds.
-pub fn eight_lines(longest: [u32; 8]) -> Vec<u8> {
-    let mut book = vec![0, 8];
+/// A book of quick lines of AH with ESP in mode 1, each with its longest seconds.
+pub fn lines(longest: &[u32]) -> Vec<u8> {
+    let mut book = vec![0, longest.len() as u8];
     for seconds in longest {
         book.extend([2, 1]);
         book.extend(seconds.to_be_bytes());
