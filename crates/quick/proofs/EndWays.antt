@@ -26,7 +26,7 @@ use Rattle.policy.specs.declared.Transforms.{Transforms}
 use Rattle.policy.specs.declared.Choice.{Choice}
 use Rattle.policy.specs.declared.Choice.the-variants as choices
 use Rattle.quick.specs.Messages.{bookOf, lines, longer, proposalsOf, messageOne, messageTwo, messageThree}
-use Rattle.quick.specs.Checks.{shape, isLonger, alike, cookiesWrong, isIdle, isInitiator, quickCode, readCode, shapeOf, takenCode, spisOf, ownSpis, agreedTwo}
+use Rattle.quick.specs.Checks.{shape, isLonger, alike, cookiesWrong, isIdle, isInitiator, quickCode, readCode, countOf, shapeOf, takenCode, spisOf, ownSpis, agreedTwo}
 use Rattle.quick.specs.Ends.{freshCode, idle, ownOf, fresh, small, kept, isGivenUp, isOpen, tickCode, withState, oneMore, ticked, identitiesWrong, beginCode, begun, repeated, deliveryCode, identityAt, opened, atInitiator, halfway, answered, atResponder, delivered}
 use Rattle.quick.specs.declared.Role.{Role}
 use Rattle.quick.specs.declared.State.{State}
@@ -292,24 +292,50 @@ module _ (e : End) (id : ℕ) (first second sent got output : List ℕ) (tight :
 
 -- ---- the checks of a delivery
 
-module _ (e : End) (holds : Bool) (m : List ℕ) (tight : Bool) where
-  pub delivery-small : tight ≡ true → 8192 ≡ deliveryCode e holds m tight
-  unfolding deliveryCode
-  delivery-small h = rw h
+-- those before the reading
+abbrev early : Bool → Bool → Bool → ℕ
+early tight holds up = if tight then 8192 else if not holds then 23 else if up then 8196 else 0
+
+module _ (state : State) (holds tight : Bool) where
+  pub early-small : tight ≡ true → 8192 ≡ early tight holds (isGivenUp state)
+  early-small h = rw h
 
   module _ (roomy : tight ≡ false) where
-    pub delivery-hash : not holds ≡ true → 23 ≡ deliveryCode e holds m tight
-    unfolding deliveryCode
-    delivery-hash h = rw (roomy, h)
+    pub early-hash : not holds ≡ true → 23 ≡ early tight holds (isGivenUp state)
+    early-hash h = rw (roomy, h)
 
-    module _ (sound : not holds ≡ false) (up : Bool) (eu : up ≡ isGivenUp (e .progress .state)) where
-      pub delivery-up : up ≡ true → 8196 ≡ deliveryCode e holds m tight
-      unfolding deliveryCode
-      delivery-up h = rw (roomy, sound, ← eu, h)
+    module _ (sound : not holds ≡ false) (up : Bool) (eu : up ≡ isGivenUp state) where
+      pub early-up : up ≡ true → 8196 ≡ early tight holds (isGivenUp state)
+      early-up h = rw (roomy, sound, ← eu, h)
 
-      pub delivery-read : up ≡ false → (c : Message) → c ≡ message m → (r : ℕ) → r ≡ readCode (e .own) (e .progress .state) (e .progress .id) m c → r ≡ deliveryCode e holds m tight
-      unfolding deliveryCode
-      delivery-read h c em r er = rw (roomy, sound, ← eu, h, ← em) er
+      pub early-passed : up ≡ false → 0 ≡ early tight holds (isGivenUp state)
+      early-passed h = rw (roomy, sound, ← eu, h)
+
+-- they come first, and where they pass the rest decides
+module _ (rest : ℕ) where
+  early-first : (tight holds up : Bool) → (early tight holds up ≡ 0 → ⊥) → early tight holds up ≡ (if tight then 8192 else if not holds then 23 else if up then 8196 else rest)
+  early-first true holds up h = refl
+  early-first false false up h = refl
+  early-first false true true h = refl
+  early-first false true false h = absurd (h refl)
+
+  early-rest : (tight holds up : Bool) → early tight holds up ≡ 0 → rest ≡ (if tight then 8192 else if not holds then 23 else if up then 8196 else rest)
+  early-rest true holds up h = absurd (omega arith)
+  early-rest false false up h = absurd (omega arith)
+  early-rest false true true h = absurd (omega arith)
+  early-rest false true false h = refl
+
+module _ (e : End) (holds : Bool) (m : List ℕ) (tight : Bool) (code : ℕ) where
+  delivery-early : code ≡ early tight holds (isGivenUp (e .progress .state)) → (code ≡ 0 → ⊥) → code ≡ deliveryCode e holds m tight
+  unfolding deliveryCode
+  delivery-early ec h = ec ∙ early-first _ tight holds (isGivenUp (e .progress .state)) (λ z. h (ec ∙ z))
+
+  delivery-read : early tight holds (isGivenUp (e .progress .state)) ≡ 0 → (read : Message) → read ≡ message m → code ≡ readCode (e .own) (e .progress .state) (e .progress .id) m read →
+      code ≡ deliveryCode e holds m tight
+  unfolding deliveryCode
+  delivery-read h read em ec =
+      ec ∙ ap (readCode (e .own) (e .progress .state) (e .progress .id) m) em
+      ∙ early-rest (readCode (e .own) (e .progress .state) (e .progress .id) m (message m)) tight holds (isGivenUp (e .progress .state)) h
 
 -- no refusal has the number 0
 numberOf : Reading → ℕ
@@ -367,13 +393,15 @@ module _ (own : Own) (state : State) (id : ℕ) (m : List ℕ) where
   read-fits exchange (refused number) h e = absurd (omega arith)
   read-fits exchange (payloads ps) h e = quick-fits exchange (0 + length ps) e
 
-pub delivery-fits : (e : End) (holds : Bool) (m : List ℕ) (tight : Bool) (code : ℕ) → code ≡ deliveryCode e holds m tight → code ≡ 0 → length m ≤ 2048
-unfolding deliveryCode message
-delivery-fits e holds m tight code ec h =
-    let roomy = passed tight 8192 _ (λ z. omega arith) (sym ec ∙ h) in
-    let sound = passed (not holds) 23 _ (λ z. omega arith) (roomy .1) in
-    let on = passed (isGivenUp (e .progress .state)) 8196 _ (λ z. omega arith) (sound .1) in
-    read-fits (e .own) (e .progress .state) (e .progress .id) m (exchangeOf m) (reading m) (reading-some m) (on .1)
+module _ (m : List ℕ) (read : Message) (em : read ≡ message m) where
+  pub delivery-fits : (own : Own) (state : State) (id code : ℕ) → code ≡ readCode own state id m read → code ≡ 0 → length m ≤ 2048
+  unfolding message
+  delivery-fits own state id code ec h =
+      read-fits own state id m (exchangeOf m) (reading m) (reading-some m) (ap (readCode own state id m) (sym em) ∙ sym ec ∙ h)
+
+  pub shape-found : (n found : ℕ) → n ≡ countOf read → found ≡ shape n m → found ≡ shapeOf m
+  unfolding shapeOf
+  shape-found n found en ef = rw (← em, ← en) ef
 
 -- ---- what a delivery brings
 
@@ -534,16 +562,26 @@ module _ (e : End) (m sent got output : List ℕ) where
         unfolding atResponder
         responder-open h r er = rw (opens, ← ek, ← es, ← ef, h, er)
 
-module _ (e : End) (holds : Bool) (m sent got output : List ℕ) (tight : Bool) (et : tight ≡ small sent got output) (code : ℕ) (ec : code ≡ deliveryCode e holds m tight) (r : Stepped) where
-  pub deliver-refused : (code ≡ 0 → ⊥) → r ≡ record { end = e; answer = Refused code } → delivered e holds m sent got output ≡ record { step = r; sent = sent; got = got; output = output }
+module _ (e : End) (holds : Bool) (m sent got output : List ℕ) (tight : Bool) (et : tight ≡ small sent got output) (before : ℕ) (eb : before ≡ early tight holds (isGivenUp (e .progress .state))) (r : Stepped) where
+  refused-by : (code : ℕ) → code ≡ deliveryCode e holds m tight → (code ≡ 0 → ⊥) → r ≡ record { end = e; answer = Refused code } → delivered e holds m sent got output ≡ record { step = r; sent = sent; got = got; output = output }
   unfolding delivered
-  deliver-refused h er = rw (← et, ← ec, ne-eqb code 0 h, er)
+  refused-by code ec h er = rw (← et, ← ec, ne-eqb code 0 h, er)
 
-  module _ (passes : code ≡ 0) (begins : Bool) (eb : begins ≡ isInitiator (e .own .role)) (x y z : List ℕ) where
-    pub deliver-initiator : begins ≡ true → atInitiator e m sent got output (e .progress .state) ≡ record { step = r; sent = x; got = y; output = z } → delivered e holds m sent got output ≡ record { step = r; sent = x; got = y; output = z }
-    unfolding delivered
-    deliver-initiator h ei = rw (← et, ← ec, eq-eqb code 0 passes, ← eb, h) ei
+  pub deliver-early : (before ≡ 0 → ⊥) → r ≡ record { end = e; answer = Refused before } → delivered e holds m sent got output ≡ record { step = r; sent = sent; got = got; output = output }
+  deliver-early h = refused-by before (delivery-early e holds m tight before eb h) h
 
-    pub deliver-responder : begins ≡ false → atResponder e m sent got output (e .progress .state) ≡ record { step = r; sent = x; got = y; output = z } → delivered e holds m sent got output ≡ record { step = r; sent = x; got = y; output = z }
-    unfolding delivered
-    deliver-responder h ei = rw (← et, ← ec, eq-eqb code 0 passes, ← eb, h) ei
+  module _ (goes : before ≡ 0) (read : Message) (em : read ≡ message m) (code : ℕ) (ec : code ≡ readCode (e .own) (e .progress .state) (e .progress .id) m read) where
+    whole : code ≡ deliveryCode e holds m tight
+    whole = delivery-read e holds m tight code (sym eb ∙ goes) read em ec
+
+    pub deliver-refused : (code ≡ 0 → ⊥) → r ≡ record { end = e; answer = Refused code } → delivered e holds m sent got output ≡ record { step = r; sent = sent; got = got; output = output }
+    deliver-refused = refused-by code whole
+
+    module _ (passes : code ≡ 0) (begins : Bool) (ei : begins ≡ isInitiator (e .own .role)) (x y z : List ℕ) where
+      pub deliver-initiator : begins ≡ true → atInitiator e m sent got output (e .progress .state) ≡ record { step = r; sent = x; got = y; output = z } → delivered e holds m sent got output ≡ record { step = r; sent = x; got = y; output = z }
+      unfolding delivered
+      deliver-initiator h ea = rw (← et, ← whole, eq-eqb code 0 passes, ← ei, h) ea
+
+      pub deliver-responder : begins ≡ false → atResponder e m sent got output (e .progress .state) ≡ record { step = r; sent = x; got = y; output = z } → delivered e holds m sent got output ≡ record { step = r; sent = x; got = y; output = z }
+      unfolding delivered
+      deliver-responder h ea = rw (← et, ← whole, eq-eqb code 0 passes, ← ei, h) ea

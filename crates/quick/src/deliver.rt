@@ -1,4 +1,4 @@
-// A delivery: the checks, then what each end does in each state.
+// A delivery: the checks, then what each end does in each state. A message is read once, and the shape that was found handed on.
 use crate::Agreed;
 use crate::End;
 use crate::Own;
@@ -9,11 +9,12 @@ use crate::StepAnswer;
 use crate::Stepped;
 use crate::reading::agreed_two;
 use crate::reading::alike;
+use crate::reading::count_of;
 use crate::reading::is_initiator;
 use crate::reading::is_longer;
 use crate::reading::own_spis;
 use crate::reading::read_code;
-use crate::reading::shape_of;
+use crate::reading::shape;
 use crate::reading::spis_of;
 use crate::reading::taken_code;
 use crate::tick::is_given_up;
@@ -33,23 +34,23 @@ use wire::be32;
 use wire::front;
 use wire::put_bytes;
 ghost use mathlib.Core.Path.{_≡_};
+ghost use mathlib.Core.Bool.{not};
 ghost use Prim.Native.Nat.{_≤_};
 ghost use lib.ListN.{length};
 ghost use Rattle.wire.specs.Wire.{numberAt, put};
+ghost use Rattle.wire.specs.Tests.{if_then_else_};
 ghost use Rattle.quick.specs.declared.StepAnswer.the-variants.{Refused};
 ghost use Rattle.quick.specs.declared.State.the-variants.{Idle, Sent, Half};
 ghost use Rattle.sets.specs.Parts.{setNumbered};
 ghost use Rattle.policy.specs.Choice.{bodyAt};
 ghost use Rattle.quick.specs.Messages.{messageTwo};
-ghost use Rattle.quick.specs.Checks.{spisOf, ownSpis};
-ghost use Rattle.quick.specs.Ends.{After, deliveryCode, opened, repeated, atInitiator, identityAt, halfway, answered, atResponder, delivered};
+ghost use Rattle.quick.specs.Checks.{shapeOf, spisOf, ownSpis};
+ghost use Rattle.quick.specs.Ends.{After, isGivenUp, opened, repeated, atInitiator, identityAt, halfway, answered, atResponder, delivered};
 
-fn delivery_code(end: End, holds: bool, m: &[u8], tight: bool) -> u16
-    ensures { λ r. ⌜ r ≡ deliveryCode end holds (now (m .entry)) tight ⌝ }
+// The checks before the reading: 0, or the refusal.
+fn early_code(state: State, holds: bool, tight: bool) -> u16
+    ensures { λ r. ⌜ r ≡ (if tight then 8192 else if not holds then 23 else if isGivenUp state then 8196 else 0) ⌝ }
 {
-    let own = end.own;
-    let progress = end.progress;
-    let state = progress.state;
     if tight {
         return 8192;
     }
@@ -59,7 +60,7 @@ fn delivery_code(end: End, holds: bool, m: &[u8], tight: bool) -> u16
     if is_given_up(state) {
         return 8196;
     }
-    read_code(own, state, progress.id, m, message::read(m))
+    0
 }
 
 fn refuse(end: End, number: u16) -> Stepped
@@ -111,29 +112,43 @@ fn open(end: End, m: &[u8], sent: &mut [u8], got: &mut [u8], output: &mut [u8]) 
 }
 
 // Message 2 at an initiator that sent message 1.
-fn take_two(end: End, m: &[u8], sent: &mut [u8], got: &mut [u8], output: &mut [u8]) -> Stepped
-    requires { ⌜ length (now m) ≤ 2048 ⌝ }
+fn take_two(
+    end: End,
+    m: &[u8],
+    found: u8,
+    sent: &mut [u8],
+    got: &mut [u8],
+    output: &mut [u8],
+) -> Stepped
+    requires { ⌜ (length (now m) ≤ 2048) × (found ≡ shapeOf (now m)) ⌝ }
     ensures { λ r. ⌜ atInitiator end (now (m .entry)) (now (sent .entry)) (now (got .entry)) (now (output .entry)) Sent ≡ record { step = r; sent = now (sent .exit); got = now (got .exit); output = now (output .exit) } ⌝ }
 {
     let progress = end.progress;
-    if !is_longer(shape_of(m)) {
+    if !is_longer(found) {
         return refuse(end, 8195);
     }
-    let code = taken_code(kept(progress.sentsize, sent), m);
+    let code = taken_code(kept(progress.sentsize, sent), m, found);
     if code != 0 {
         return refuse(end, code);
     }
     open(end, m, sent, got, output)
 }
 
-fn at_initiator(end: End, m: &[u8], sent: &mut [u8], got: &mut [u8], output: &mut [u8]) -> Stepped
-    requires { ⌜ length (now m) ≤ 2048 ⌝ }
+fn at_initiator(
+    end: End,
+    m: &[u8],
+    found: u8,
+    sent: &mut [u8],
+    got: &mut [u8],
+    output: &mut [u8],
+) -> Stepped
+    requires { ⌜ (length (now m) ≤ 2048) × (found ≡ shapeOf (now m)) ⌝ }
     ensures { λ r. ⌜ atInitiator end (now (m .entry)) (now (sent .entry)) (now (got .entry)) (now (output .entry)) (end .progress .state) ≡ record { step = r; sent = now (sent .exit); got = now (got .exit); output = now (output .exit) } ⌝ }
 {
     let progress = end.progress;
     let state = progress.state;
     match state {
-        State::Sent => take_two(end, m, sent, got, output),
+        State::Sent => take_two(end, m, found, sent, got, output),
         State::Open => {
             if alike(m, kept(progress.gotsize, got)) {
                 return repeat(end, sent, output);
@@ -147,10 +162,11 @@ fn at_initiator(end: End, m: &[u8], sent: &mut [u8], got: &mut [u8], output: &mu
 }
 
 // The identities of a message, no bytes where it has none.
-fn identity_at(k: u8, m: &[u8]) -> &[u8]
+fn identity_at(k: u8, m: &[u8], found: u8) -> &[u8]
+    requires { ⌜ found ≡ shapeOf (now m) ⌝ }
     ensures { λ r. ⌜ now r ≡ identityAt k (now (m .entry)) ⌝ }
 {
-    if shape_of(m) == 5 {
+    if found == 5 {
         return body_at(k, m);
     }
     front(m, 0)
@@ -171,13 +187,20 @@ fn agreed_one(own: Own, number: ProposalNumber, transforms: Transforms, set: &[u
 }
 
 // Writes message 2, the identities of message 1 repeated; says how long it is.
-fn put_two(buffer: &mut [u8], own: Own, transforms: Transforms, set: &[u8], m: &[u8]) -> u16
-    requires { ⌜ (length (now set) ≤ 2048) × (length (now m) ≤ 2048) ⌝ }
+fn put_two(
+    buffer: &mut [u8],
+    own: Own,
+    transforms: Transforms,
+    set: &[u8],
+    m: &[u8],
+    found: u8,
+) -> u16
+    requires { ⌜ (length (now set) ≤ 2048) × (length (now m) ≤ 2048) × (found ≡ shapeOf (now m)) ⌝ }
     ensures { λ r. ⌜ put (now (buffer .entry)) 0 (messageTwo own (numberAt 4 (now (m .entry)) 20) transforms (now (set .entry)) (identityAt 3 (now (m .entry))) (identityAt 4 (now (m .entry)))) ≡ (r, now (buffer .exit)) ⌝ }
 {
     let id = be32(m, 20);
-    let first = identity_at(3, m);
-    let second = identity_at(4, m);
+    let first = identity_at(3, m, found);
+    let second = identity_at(4, m, found);
     let reply = Proposals::Reply(transforms);
     put_longer(buffer, own, id, reply, set, first, second)
 }
@@ -186,13 +209,14 @@ fn put_two(buffer: &mut [u8], own: Own, transforms: Transforms, set: &[u8], m: &
 fn be_half(
     end: End,
     m: &[u8],
+    found: u8,
     number: ProposalNumber,
     transforms: Transforms,
     sent: &mut [u8],
     got: &mut [u8],
     output: &mut [u8],
 ) -> Stepped
-    requires { ⌜ length (now m) ≤ 2048 ⌝ }
+    requires { ⌜ (length (now m) ≤ 2048) × (found ≡ shapeOf (now m)) ⌝ }
     ensures { λ r. ⌜ halfway end (now (m .entry)) (now (sent .entry)) (now (got .entry)) (now (output .entry)) number transforms (setNumbered number (bodyAt 1 (now (m .entry)))) ≡ record { step = r; sent = now (sent .exit); got = now (got .exit); output = now (output .exit) } ⌝ }
 {
     let own = end.own;
@@ -200,8 +224,8 @@ fn be_half(
     let set = set_numbered(number, body_at(1, m));
     let agreed = agreed_one(own, number, transforms, set);
     put_bytes(got, 0, m);
-    put_two(sent, own, transforms, set, m);
-    let size = put_two(output, own, transforms, set, m);
+    put_two(sent, own, transforms, set, m, found);
+    let size = put_two(output, own, transforms, set, m, found);
     Stepped {
         end: End {
             own,
@@ -222,38 +246,47 @@ fn be_half(
 fn answer_choice(
     end: End,
     m: &[u8],
+    found: u8,
     choice: Choice,
     sent: &mut [u8],
     got: &mut [u8],
     output: &mut [u8],
 ) -> Stepped
-    requires { ⌜ length (now m) ≤ 2048 ⌝ }
+    requires { ⌜ (length (now m) ≤ 2048) × (found ≡ shapeOf (now m)) ⌝ }
     ensures { λ r. ⌜ answered end (now (m .entry)) (now (sent .entry)) (now (got .entry)) (now (output .entry)) choice ≡ record { step = r; sent = now (sent .exit); got = now (got .exit); output = now (output .exit) } ⌝ }
 {
     match choice {
         Choice::Refused(number) => refuse(end, number),
         Choice::Chosen(number, _, transforms) => {
-            be_half(end, m, number, transforms, sent, got, output)
+            be_half(end, m, found, number, transforms, sent, got, output)
         }
     }
 }
 
 // Message 1 at an Idle responder.
-fn answer_one(end: End, m: &[u8], sent: &mut [u8], got: &mut [u8], output: &mut [u8]) -> Stepped
-    requires { ⌜ length (now m) ≤ 2048 ⌝ }
+fn answer_one(
+    end: End,
+    m: &[u8],
+    found: u8,
+    sent: &mut [u8],
+    got: &mut [u8],
+    output: &mut [u8],
+) -> Stepped
+    requires { ⌜ (length (now m) ≤ 2048) × (found ≡ shapeOf (now m)) ⌝ }
     ensures { λ r. ⌜ atResponder end (now (m .entry)) (now (sent .entry)) (now (got .entry)) (now (output .entry)) Idle ≡ record { step = r; sent = now (sent .exit); got = now (got .exit); output = now (output .exit) } ⌝ }
 {
-    if !is_longer(shape_of(m)) {
+    if !is_longer(found) {
         return refuse(end, 8195);
     }
     let own = end.own;
     let book = front(&own.book, own.booksize as usize);
     let choice = choose_from(32, book, body_at(1, m));
-    answer_choice(end, m, choice, sent, got, output)
+    answer_choice(end, m, found, choice, sent, got, output)
 }
 
 // A message at a Half responder: message 1 again, or message 3.
-fn at_half(end: End, m: &[u8], sent: &[u8], got: &[u8], output: &mut [u8]) -> Stepped
+fn at_half(end: End, m: &[u8], found: u8, sent: &[u8], got: &[u8], output: &mut [u8]) -> Stepped
+    requires { ⌜ found ≡ shapeOf (now m) ⌝ }
     ensures { λ r. ⌜ atResponder end (now (m .entry)) (now (sent .entry)) (now (got .entry)) (now (output .entry)) Half ≡ record { step = r; sent = now (sent .entry); got = now (got .entry); output = now (output .exit) } ⌝ }
 {
     let own = end.own;
@@ -261,7 +294,7 @@ fn at_half(end: End, m: &[u8], sent: &[u8], got: &[u8], output: &mut [u8]) -> St
     if alike(m, kept(progress.gotsize, got)) {
         return repeat(end, sent, output);
     }
-    if shape_of(m) == 1 {
+    if found == 1 {
         return Stepped {
             end: End {
                 own,
@@ -273,17 +306,24 @@ fn at_half(end: End, m: &[u8], sent: &[u8], got: &[u8], output: &mut [u8]) -> St
     refuse(end, 8195)
 }
 
-fn at_responder(end: End, m: &[u8], sent: &mut [u8], got: &mut [u8], output: &mut [u8]) -> Stepped
-    requires { ⌜ length (now m) ≤ 2048 ⌝ }
+fn at_responder(
+    end: End,
+    m: &[u8],
+    found: u8,
+    sent: &mut [u8],
+    got: &mut [u8],
+    output: &mut [u8],
+) -> Stepped
+    requires { ⌜ (length (now m) ≤ 2048) × (found ≡ shapeOf (now m)) ⌝ }
     ensures { λ r. ⌜ atResponder end (now (m .entry)) (now (sent .entry)) (now (got .entry)) (now (output .entry)) (end .progress .state) ≡ record { step = r; sent = now (sent .exit); got = now (got .exit); output = now (output .exit) } ⌝ }
 {
     let progress = end.progress;
     let state = progress.state;
     match state {
-        State::Idle => answer_one(end, m, sent, got, output),
-        State::Half => at_half(end, m, sent, got, output),
+        State::Idle => answer_one(end, m, found, sent, got, output),
+        State::Half => at_half(end, m, found, sent, got, output),
         State::Open => {
-            if alike(m, kept(progress.gotsize, got)) | (shape_of(m) == 1) {
+            if alike(m, kept(progress.gotsize, got)) | (found == 1) {
                 return Stepped {
                     end,
                     answer: StepAnswer::Nothing,
@@ -307,14 +347,22 @@ pub fn deliver(
 ) -> Stepped
     ensures { λ r. ⌜ delivered end holds (now (m .entry)) (now (sent .entry)) (now (got .entry)) (now (output .entry)) ≡ record { step = r; sent = now (sent .exit); got = now (got .exit); output = now (output .exit) } ⌝ }
 {
-    let code = delivery_code(end, holds, m, small(sent, got, output));
+    let own = end.own;
+    let role = own.role;
+    let progress = end.progress;
+    let state = progress.state;
+    let early = early_code(state, holds, small(sent, got, output));
+    if early != 0 {
+        return refuse(end, early);
+    }
+    let read = message::read(m);
+    let code = read_code(own, state, progress.id, m, read);
     if code != 0 {
         return refuse(end, code);
     }
-    let own = end.own;
-    let role = own.role;
+    let found = shape(count_of(read), m);
     if is_initiator(role) {
-        return at_initiator(end, m, sent, got, output);
+        return at_initiator(end, m, found, sent, got, output);
     }
-    at_responder(end, m, sent, got, output)
+    at_responder(end, m, found, sent, got, output)
 }

@@ -35,7 +35,7 @@ fn kind_is(k: u8, m: &[u8], kind: u8) -> bool
 }
 
 // The count of payloads where their types are those of a quick mode message, else 0.
-fn shape(count: u8, m: &[u8]) -> u8
+pub(crate) fn shape(count: u8, m: &[u8]) -> u8
     ensures { λ r. ⌜ r ≡ shape count (now (m .entry)) ⌝ }
 {
     let longer = kind_is(1, m, 1) & kind_is(2, m, 10);
@@ -136,7 +136,7 @@ pub(crate) fn read_code(own: Own, state: State, id: u32, m: &[u8], read: Message
     }
 }
 
-fn count_of(read: Message) -> u8
+pub(crate) fn count_of(read: Message) -> u8
     ensures { λ r. ⌜ r ≡ countOf read ⌝ }
 {
     match read {
@@ -146,7 +146,7 @@ fn count_of(read: Message) -> u8
 }
 
 // The shape of a message: 1, 3, 5 by its count of payloads, or 0.
-pub(crate) fn shape_of(m: &[u8]) -> u8
+fn shape_of(m: &[u8]) -> u8
     ensures { λ r. ⌜ r ≡ shapeOf (now (m .entry)) ⌝ }
 {
     shape(count_of(message::read(m)), m)
@@ -184,24 +184,25 @@ fn offered_set<'a>(sent: &'a [u8], m: &[u8]) -> &'a [u8]
     )
 }
 
-fn identities_same(sent: &[u8], m: &[u8]) -> bool
+fn identities_same(sent: &[u8], m: &[u8], found: u8) -> bool
+    requires { ⌜ found ≡ shapeOf (now m) ⌝ }
     ensures { λ r. ⌜ r ≡ identitiesSame (now (sent .entry)) (now (m .entry)) ⌝ }
 {
-    let shape = shape_of(m);
     let first = equal(body_at(3, m), body_at(3, sent));
     let second = equal(body_at(4, m), body_at(4, sent));
-    (shape == shape_of(sent)) & ((shape == 3) | first & second)
+    (found == shape_of(sent)) & ((found == 3) | first & second)
 }
 
-// Whether message 2 is taken from the offer that was sent: 0, or the refusal.
-pub(crate) fn taken_code(sent: &[u8], m: &[u8]) -> u16
+// Whether message 2, of the shape that was found, is taken from the offer that was sent: 0, or the refusal.
+pub(crate) fn taken_code(sent: &[u8], m: &[u8], found: u8) -> u16
+    requires { ⌜ found ≡ shapeOf (now m) ⌝ }
     ensures { λ r. ⌜ r ≡ takenCode (now (sent .entry)) (now (m .entry)) ⌝ }
 {
     let one = set_count(body_at(1, m)) == 1;
     if !(one & set_taken(replied_set(m), offered_set(sent, m))) {
         return 15;
     }
-    if !identities_same(sent, m) {
+    if !identities_same(sent, m, found) {
         return 18;
     }
     0

@@ -10,7 +10,7 @@ answer-choice-spec =
     (λ c. search needs)
     (λ c κs. search needs)
     (λ c. search needs)
-    (λ c κs. search needs)
+    (λ c κs. (search needs, search needs))
     (λ c. search choice-refused)
     (λ c. search needs)
     (λ c. search needs)

@@ -13,7 +13,6 @@ at-half-spec =
     (λ c. search needs)
     (λ c. search half-again)
     (λ c κs. search needs)
-    (λ c κs. search needs)
     (λ c. search half-opens)
     (λ c κs. search needs)
     (λ c. search half-refused))

@@ -8,7 +8,7 @@ at-initiator-spec =
     tie.close
     (tie.spec
     (λ c. search needs)
-    (λ c κs. search needs)
+    (λ c κs. (search needs, search needs))
     (λ c. search needs)
     (λ c κs. search needs)
     (λ c κs. search needs)

@@ -1,4 +1,4 @@
-use Rattle.quick.proofs.EndWays.{deliver-refused, deliver-initiator, deliver-responder, delivery-fits}
+use Rattle.quick.proofs.EndWays.{deliver-early, deliver-refused, deliver-initiator, deliver-responder, delivery-fits, shape-found}
 use borrow.Author.Needs.{needs}
 use Rattle.quick.proofs.deliver.deliver.Statement.{statement}
 use Rattle.quick.proofs.deliver.deliver.Tie as tie
@@ -13,14 +13,23 @@ deliver-spec =
     (λ c. search needs)
     (λ c. search needs)
     (λ c. search needs)
+    (λ c. search deliver-early)
+    (λ c κs. search needs)
+    (λ c κs. search needs)
+    (λ c κs. search needs)
+    (λ c. search needs)
+    (λ c. search needs)
+    (λ c. search needs)
     (λ c. search deliver-refused)
     (λ c κs. search needs)
-    (λ c κs. delivery-fits _ _ _ _ _ (c .before .before .before .before .before .before .before .delivery-code .ensures) (c .before .before .before .before .before .before .if1 .left))
+    (λ c κs. search needs)
+    (λ c κs. search needs)
+    (λ c κs. (delivery-fits _ _ (c .before .before .before .before .before .before .before .before .before .read .ensures) _ _ _ _ (c .before .before .before .before .before .before .before .before .read-code .ensures) (c .before .before .before .before .before .before .before .if2 .left), shape-found _ _ (c .before .before .before .before .before .before .before .before .before .read .ensures) _ _ (c .before .before .before .before .before .before .count-of .ensures) (c .before .before .before .before .before .shape .ensures)))
     (λ c. search needs)
     (λ c. search needs)
     (λ c. search needs)
     (λ c. search deliver-initiator)
-    (λ c κs. delivery-fits _ _ _ _ _ (c .before .before .before .before .before .before .before .delivery-code .ensures) (c .before .before .before .before .before .before .if1 .left))
+    (λ c κs. (delivery-fits _ _ (c .before .before .before .before .before .before .before .before .before .read .ensures) _ _ _ _ (c .before .before .before .before .before .before .before .before .read-code .ensures) (c .before .before .before .before .before .before .before .if2 .left), shape-found _ _ (c .before .before .before .before .before .before .before .before .before .read .ensures) _ _ (c .before .before .before .before .before .before .count-of .ensures) (c .before .before .before .before .before .shape .ensures)))
     (λ c. search needs)
     (λ c. search needs)
     (λ c. search needs)

@@ -9,7 +9,6 @@ take-two-spec =
     (tie.spec
     (λ c κs. search needs)
     (λ c κs. search needs)
-    (λ c κs. search needs)
     (λ c. search two-other)
     (λ c κs. search needs)
     (λ c κs. search needs)
@@ -20,4 +19,4 @@ take-two-spec =
     (λ c. search needs)
     (λ c. search needs)
     (λ c. search needs)
-    (λ c. search two-opened))
+    (λ c. two-opened _ _ _ _ _ _ (c .before .before .before .before .before .before .before .before .before .before .before .before .before .before .before .before .before .before .before .before .before .pre .1) _ (c .before .before .before .before .before .before .before .before .before .before .before .before .before .before .before .is-longer .ensures) (search needs) _ _ (c .before .before .before .before .before .before .before .before .before .before .before .before .kept .ensures) (c .before .before .before .before .before .before .before .before .before .before .before .taken-code .ensures) _ (search needs) _ _ _ (c .before .before .before .before .before .before .open .ensures)))
