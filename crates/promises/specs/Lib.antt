@@ -1,3 +1,4 @@
+pub mod DemandThree
 pub mod OneAnswer
 pub mod Messages
 pub mod Marked

@@ -1,4 +1,5 @@
--- Quick mode ends: a refusal changes neither the record nor a lent buffer, and no two answers of a step have the same number and values.
+-- Quick mode ends: a refusal changes neither the record nor a lent buffer, no two answers of a step have the same number and values, and
+-- every message that an end writes is readable.
 use Prim.Native.Nat.{ℕ}
 use mathlib.Core.Path.{_≡_, refl, sym, ap, _∙_}
 use mathlib.Core.List.{List}
@@ -17,6 +18,8 @@ use Rattle.quick.specs.declared.State.{State}
 use Rattle.quick.specs.declared.State.the-variants.{Idle, Sent, Half, Open, GivenUp}
 use Rattle.quick.specs.declared.StepAnswer.{StepAnswer}
 use Rattle.quick.specs.declared.StepAnswer.the-variants.{Send, Nothing, Refused}
+use Rattle.exchange.specs.Exchange.{World, Run, Fresh}
+use Rattle.exchange.specs.ExchangeWritten.{AllReadable, all-readable}
 
 module _ (end : End) (sent got output : List ℕ) where
   -- what a call leaves: where it is a refusal, all is as it was
@@ -88,3 +91,8 @@ meant-answer (Refused number) = refl
 
 pub step-own : (x y : StepAnswer) → answer x ≡ answer y → x ≡ y
 step-own x y h = sym (meant-answer x) ∙ ap meant h ∙ meant-answer y
+
+-- every message that an end writes is readable, has at most 2,048 bytes, and is padded with fewer than 16 zero bytes: at every moment of an
+-- exchange, whatever was delivered
+pub written-readable : {w u : World} → Fresh w → Run w u → AllReadable (u .fromInitiator) × AllReadable (u .fromResponder)
+written-readable f k = all-readable f k

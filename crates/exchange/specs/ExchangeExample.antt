@@ -1,0 +1,159 @@
+-- One exchange, computed: message one is lost and sent again by a tick, it arrives twice, the carrier fills in the hash bytes, and both
+-- ends are open. So what ExchangePromises.antt says is not said of nothing.
+use Prim.Native.Nat.{ℕ}
+use mathlib.Core.Path.{_≡_, refl}
+use mathlib.Core.List.{List, [], _∷_}
+use mathlib.Core.Bool.{true}
+use native.Mathlib.Omega.{arith}
+use lib.ListN.{replicate}
+use Rattle.wire.specs.Wire.{numberAt, bytesOf, head, headed, allZero, equal, paste}
+use Rattle.identity.specs.Identity as identities
+use Rattle.attribute.specs.Attributes as attributes
+use Rattle.offer.specs.Transforms as transforms
+use Rattle.offer.specs.Proposals as proposals
+use Rattle.message.specs.Header as header
+use Rattle.message.specs.Payloads as payloads
+use Rattle.message.specs.Message as message
+use Rattle.sets.specs.Parts as parts
+use Rattle.book.specs.Book as books
+use Rattle.suits.specs.Suits as suits
+use Rattle.policy.specs.Choice as choices
+use Rattle.reply.specs.Reply as replies
+use Rattle.quick.specs.Messages as messages
+use Rattle.quick.specs.Checks as checks
+use Rattle.quick.specs.Ends as ends
+use Rattle.policy.specs.declared.Transforms.the-variants.{Two}
+use Rattle.quick.specs.declared.Role.the-variants.{Initiator, Responder}
+use Rattle.quick.specs.declared.Spis.the-variants.{Both}
+use Rattle.quick.specs.declared.Agreed.{Agreed}
+use Rattle.quick.specs.declared.State.the-variants.{Open}
+use Rattle.exchange.specs.Exchange.{begin, deliver, tick, called, World, Event, atFirst, atSecond, step, here, Fair, Run, rest, goes, Fresh, stateOf, agreedOf}
+
+-- the initiator's policy book has two quick lines: ESP alone, and AH with ESP, mode 1 and 3,600 seconds; the responder's has the second alone
+unfoldable pub bookOne : List ℕ
+bookOne = 0 ∷ 2 ∷ 1 ∷ 1 ∷ 0 ∷ 0 ∷ 14 ∷ 16 ∷ 2 ∷ 1 ∷ 0 ∷ 0 ∷ 14 ∷ 16 ∷ []
+
+unfoldable pub bookTwo : List ℕ
+bookTwo = 0 ∷ 1 ∷ 2 ∷ 1 ∷ 0 ∷ 0 ∷ 14 ∷ 16 ∷ []
+
+-- two identities, an address each
+unfoldable pub firstIdentity : List ℕ
+firstIdentity = 1 ∷ 0 ∷ 0 ∷ 0 ∷ 10 ∷ 0 ∷ 0 ∷ 1 ∷ []
+
+unfoldable pub secondIdentity : List ℕ
+secondIdentity = 1 ∷ 0 ∷ 0 ∷ 0 ∷ 10 ∷ 0 ∷ 0 ∷ 2 ∷ []
+
+unfoldable pub nonceOne : List ℕ
+nonceOne = 1 ∷ 2 ∷ 3 ∷ 4 ∷ 5 ∷ 6 ∷ 7 ∷ 8 ∷ []
+
+unfoldable pub nonceTwo : List ℕ
+nonceTwo = 11 ∷ 12 ∷ 13 ∷ 14 ∷ 15 ∷ 16 ∷ 17 ∷ 18 ∷ []
+
+unfoldable pub buffer : List ℕ
+buffer = replicate 2048 0
+
+unfoldable pub start : World
+start = record {
+  initiator = record { end = ends.fresh Initiator 3 4 bookOne 256 257 nonceOne .end; sent = buffer; got = buffer };
+  responder = record { end = ends.fresh Responder 3 4 bookTwo 512 513 nonceTwo .end; sent = buffer; got = buffer };
+  fromInitiator = [];
+  fromResponder = [];
+}
+
+-- the hash bytes as the carrier fills them in
+unfoldable pub filled : List ℕ → List ℕ
+filled m = paste m 32 (replicate 32 170)
+
+-- the three messages; the responder chooses set 2
+unfoldable pub messageFirst : List ℕ
+messageFirst = messages.messageOne (start .initiator .end .own) 7 firstIdentity secondIdentity
+
+unfoldable pub messageSecond : List ℕ
+messageSecond =
+    messages.messageTwo (start .responder .end .own) 7 (Two (record { 0 = 1 }) (record { 0 = 1 })) (parts.setNumbered (record { 0 = 2 }) (choices.bodyAt 1 messageFirst)) firstIdentity secondIdentity
+
+unfoldable pub messageThird : List ℕ
+messageThird = messages.messageThree (start .initiator .end .own) 7
+
+-- what happens: begin; its message is lost, and a tick sends it again; it arrives; it arrives once more; message two; message three
+unfoldable pub trace : List Event
+trace =
+    atFirst (begin 7 firstIdentity secondIdentity buffer)
+    ∷ atFirst (tick buffer)
+    ∷ atSecond (deliver (filled messageFirst) true buffer)
+    ∷ atSecond (deliver (filled messageFirst) true buffer)
+    ∷ atFirst (deliver (filled messageSecond) true buffer)
+    ∷ atSecond (deliver (filled messageThird) true buffer)
+    ∷ []
+
+unfoldable pub after : World → List Event → World
+after w [] = w
+after w (ev ∷ evs) = after (step w ev) evs
+
+-- each event is one that Exchange.Fair allows where it happens
+unfoldable pub FairTrace : World → List Event → Type 0
+FairTrace w [] = Unit {0}
+FairTrace w (ev ∷ evs) = Fair w ev × FairTrace (step w ev) evs
+
+fair-run : {w u : World} (evs : List Event) → Run w u → FairTrace u evs → Run w (after u evs)
+unfolding FairTrace after
+fair-run [] k f = k
+fair-run (ev ∷ evs) k f = fair-run evs (goes k ev (f .0)) (f .1)
+
+-- set 2, transform 1 of each proposal, and the SPIs of both sides, AH before ESP
+abbrev pub agreement : Agreed
+agreement = record { set = record { 0 = 2 }; transforms = Two (record { 0 = 1 }) (record { 0 = 1 }); initiator = Both 256 257; responder = Both 512 513 }
+
+-- what is computed of it
+pub record Computed : Type 0 where
+  pub starts-fresh : Fresh start
+  pub fair : FairTrace start trace
+  pub first-open : stateOf (after start trace .initiator) ≡ Open
+  pub second-open : stateOf (after start trace .responder) ≡ Open
+  pub first-values : agreedOf (after start trace .initiator) ≡ agreement
+  pub second-values : agreedOf (after start trace .responder) ≡ agreement
+  -- what was written on the way, the newest first: message one twice and message three; message two twice
+  pub from-first : after start trace .fromInitiator ≡ messageThird ∷ messageFirst ∷ messageFirst ∷ []
+  pub from-second : after start trace .fromResponder ≡ messageSecond ∷ messageSecond ∷ []
+
+pub computed : Computed
+unfolding start bookOne bookTwo firstIdentity secondIdentity nonceOne nonceTwo buffer filled messageFirst messageSecond messageThird trace after FairTrace called
+    numberAt bytesOf head headed allZero equal paste
+    attributes.sentFixed attributes.attributeType attributes.attributeSize attributes.outOfBounds attributes.find attributes.attribute attributes.mustBeFixed attributes.fixedWrong attributes.isDuration attributes.durationWrong attributes.attributeCode attributes.attributesCode attributes.attributesLawful attributes.value attributes.countFrom attributes.attributeCount
+    transforms.nextWanted transforms.transformWrong transforms.transformCode transforms.transformsCode
+    proposals.proposalWrong proposals.has proposals.with proposals.none proposals.setBefore proposals.orderWrong proposals.protocolWrong proposals.spiWrong proposals.countWrong proposals.transformBytes proposals.innerCode proposals.proposalCode proposals.proposalsCode proposals.offerCode
+    header.lengthWrong header.majorWrong header.minorWrong header.exchangeRefused header.exchangeUnknown header.flagsWrong header.cookieWrong header.messageIdWrong header.padWrong header.noPayload header.headerCode
+    identities.quickData identities.portZero identities.lawful identities.identity
+    payloads.typeWrong payloads.lengthOut payloads.hashCode payloads.nonceCode payloads.bodyCode payloads.bodyOf payloads.payloadCode payloads.restCode
+    message.first message.chain message.reading message.counted message.message message.walk message.payloadAt
+    parts.skip parts.parts parts.firstItem parts.afterItem parts.setEnd parts.firstSet parts.afterSet parts.numbered parts.set parts.setCount parts.setNumbered parts.proposal parts.proposalCount parts.proposalNumber parts.protocol parts.spi parts.transformCount parts.transform parts.transformNumbered parts.transformNumber parts.transformId parts.attributesOf
+    books.quickStart books.quickCount books.bookSize books.mainSeconds books.quickAt books.quickProtocols books.quickMode books.quickSeconds books.mainLineLawful books.quickLineLawful books.mainLinesLawful books.quickLinesLawful books.bookInFront
+    suits.present suits.valueIs suits.lifeWithin suits.nothingSurplus suits.quickId suits.quickIntegrity suits.quickSuits suits.transformSuits suits.lowestFrom suits.lowest suits.protocolsAlone suits.protocolsBoth suits.protocolsSuit suits.setSuits
+    choices.lineCount choices.lineFrom choices.firstLine choices.numberOf choices.transformsOf choices.chosen choices.setFrom choices.chooseFrom choices.bodyAt
+    replies.ownSpi replies.fields replies.proposalOf replies.proposalReply replies.setReply replies.saOf
+    messages.bookOf messages.nonceOf messages.fixed messages.integrity messages.attributes messages.transformOne messages.lineProposal messages.lineSet messages.nextSet messages.lineSets messages.lines messages.offerOf messages.hash messages.padding messages.padded messages.header messages.messageOf messages.nonceAndIdentities messages.longer messages.proposalsOf messages.messageOne messages.messageTwo messages.messageThree
+    checks.kindIs checks.shape checks.isLonger checks.alike checks.cookiesWrong checks.isIdle checks.isInitiator checks.quickCode checks.readCode checks.countOf checks.shapeOf checks.proposalTaken checks.setTaken checks.repliedSet checks.offeredSet checks.identitiesSame checks.takenCode checks.spisOf checks.transformsIn checks.spiFor checks.ownSpis checks.agreedTwo
+    ends.freshCode ends.idle ends.ownOf ends.fresh ends.small ends.kept ends.isGivenUp ends.identitiesWrong ends.beginCode ends.begun ends.tickCode ends.withState ends.oneMore ends.isOpen ends.ticked ends.deliveryCode ends.identityAt ends.opened ends.atInitiator ends.halfway ends.answered ends.atResponder ends.delivered
+computed = record {
+  starts-fresh = record {
+    icookie = 3;
+    rcookie = 4;
+    icookie-fits = omega arith;
+    rcookie-fits = omega arith;
+    first = record { book = bookOne; ah = 256; esp = 257; nonce = nonceOne; ah-fits = omega arith; esp-fits = omega arith; made = refl };
+    second = record { book = bookTwo; ah = 512; esp = 513; nonce = nonceTwo; ah-fits = omega arith; esp-fits = omega arith; made = refl };
+    none-first = refl;
+    none-second = refl;
+  };
+  fair = (omega arith, (tt, (λ t. here refl, (λ t. here refl, (λ t. here refl, (λ t. here refl, tt))))));
+  first-open = refl;
+  second-open = refl;
+  first-values = refl;
+  second-values = refl;
+  from-first = refl;
+  from-second = refl;
+}
+
+-- two fresh ends, a run that the premise allows, and both open at its end
+pub reached : (w : World) × (u : World) × Fresh w × Run w u × (stateOf (u .initiator) ≡ Open) × (stateOf (u .responder) ≡ Open)
+reached = (start, after start trace, computed .starts-fresh, fair-run trace rest (computed .fair), computed .first-open, computed .second-open)
