@@ -1,8 +1,8 @@
 // The two ends of quick mode as they go from line to line, and which part of the kept buffers is lent to them.
 use crate::State;
 use crate::say::append;
+use checks::Role;
 use quick::End;
-use quick::Role;
 use quick::fresh::fresh;
 use wire::after;
 use wire::equal;

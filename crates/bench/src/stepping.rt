@@ -21,7 +21,7 @@ use crate::number::Number;
 use crate::say;
 use crate::say::append;
 use crate::words;
-use quick::Role;
+use checks::Role;
 use quick::StepAnswer;
 use quick::Stepped;
 use wire::after;

@@ -12,14 +12,14 @@ use Rattle.policy.specs.declared.LineNumber.{LineNumber}
 use Rattle.policy.specs.declared.Transforms.{Transforms}
 use Rattle.policy.specs.declared.Choice.the-variants.{Chosen}
 use Rattle.quick.specs.Messages.{bookOf, nonceOf, messageOne, messageTwo, messageThree}
-use Rattle.quick.specs.Checks.{alike, nonce}
+use Rattle.checks.specs.Checks.{alike, nonce}
 use Rattle.quick.specs.Ends.{After, fresh, begun, ticked, delivered, kept}
-use Rattle.quick.specs.declared.Role.{Role}
-use Rattle.quick.specs.declared.Role.the-variants.{Initiator, Responder}
-use Rattle.quick.specs.declared.State.{State}
-use Rattle.quick.specs.declared.State.the-variants.{GivenUp}
-use Rattle.quick.specs.declared.Own.{Own}
-use Rattle.quick.specs.declared.Agreed.{Agreed}
+use Rattle.checks.specs.declared.Role.{Role}
+use Rattle.checks.specs.declared.Role.the-variants.{Initiator, Responder}
+use Rattle.checks.specs.declared.State.{State}
+use Rattle.checks.specs.declared.State.the-variants.{GivenUp}
+use Rattle.checks.specs.declared.Own.{Own}
+use Rattle.checks.specs.declared.Agreed.{Agreed}
 use Rattle.quick.specs.declared.End.{End}
 use Rattle.quick.specs.declared.StepAnswer.{StepAnswer}
 use Rattle.quick.specs.declared.StepAnswer.the-variants.{Send, Nothing, Refused}

@@ -20,13 +20,13 @@ use Rattle.suits.specs.Suits as suits
 use Rattle.policy.specs.Choice as choices
 use Rattle.reply.specs.Reply as replies
 use Rattle.quick.specs.Messages as messages
-use Rattle.quick.specs.Checks as checks
+use Rattle.checks.specs.Checks as checks
 use Rattle.quick.specs.Ends as ends
 use Rattle.policy.specs.declared.Transforms.the-variants.{Two}
-use Rattle.quick.specs.declared.Role.the-variants.{Initiator, Responder}
-use Rattle.quick.specs.declared.Spis.the-variants.{Both}
-use Rattle.quick.specs.declared.Agreed.{Agreed}
-use Rattle.quick.specs.declared.State.the-variants.{Open}
+use Rattle.checks.specs.declared.Role.the-variants.{Initiator, Responder}
+use Rattle.checks.specs.declared.Spis.the-variants.{Both}
+use Rattle.checks.specs.declared.Agreed.{Agreed}
+use Rattle.checks.specs.declared.State.the-variants.{Open}
 use Rattle.exchange.specs.Exchange.{begin, deliver, tick, called, World, Event, atFirst, atSecond, step, here, Fair, Run, rest, goes, Fresh, stateOf, agreedOf}
 
 -- the initiator's policy book has two quick lines: ESP alone, and AH with ESP, mode 1 and 3,600 seconds; the responder's has the second alone

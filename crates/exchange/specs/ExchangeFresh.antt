@@ -13,8 +13,8 @@ use Rattle.wire.proofs.Laws.{paste-inside}
 use Rattle.book.specs.Book.{mainCount, quickStart, quickCount, bookSize, bookInFront, mainLinesLawful, quickLinesLawful}
 use Rattle.quick.specs.Messages.{bookOf, nonceOf}
 use Rattle.quick.specs.Ends.{freshCode, idle, ownOf, fresh}
-use Rattle.quick.specs.declared.Role.{Role}
-use Rattle.quick.specs.declared.State.the-variants.{Idle}
+use Rattle.checks.specs.declared.Role.{Role}
+use Rattle.checks.specs.declared.State.the-variants.{Idle}
 use Rattle.quick.specs.declared.Made.{Made}
 use Rattle.quick.specs.declared.End.{End}
 use Rattle.quick.proofs.Shapes.{Fit}

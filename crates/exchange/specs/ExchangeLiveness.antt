@@ -19,13 +19,13 @@ use Rattle.policy.specs.declared.Transforms.{Transforms}
 use Rattle.policy.specs.declared.Choice.the-variants.{Chosen}
 use Rattle.message.specs.Message.{message}
 use Rattle.quick.specs.Messages.{bookOf, lines, offerOf, messageOne, messageTwo, messageThree}
-use Rattle.quick.specs.Checks.{isLonger, alike, isIdle, isInitiator, readCode, shapeOf, takenCode}
+use Rattle.checks.specs.Checks.{isLonger, alike, isIdle, isInitiator, readCode, shapeOf, takenCode}
 use Rattle.quick.specs.Ends.{After, small, isGivenUp, nothing, repeating, withState, oneMore, opened, atInitiator, halfway, answered, atResponder}
-use Rattle.quick.proofs.Laws.{alike-same, alike-sym, alike-trans, alike-says}
-use Rattle.quick.specs.declared.Role.{Role}
-use Rattle.quick.specs.declared.State.{State}
-use Rattle.quick.specs.declared.State.the-variants.{Idle, Sent, Half, Open, GivenUp}
-use Rattle.quick.specs.declared.Own.{Own}
+use Rattle.checks.proofs.Laws.{alike-same, alike-sym, alike-trans, alike-says}
+use Rattle.checks.specs.declared.Role.{Role}
+use Rattle.checks.specs.declared.State.{State}
+use Rattle.checks.specs.declared.State.the-variants.{Idle, Sent, Half, Open, GivenUp}
+use Rattle.checks.specs.declared.Own.{Own}
 use Rattle.quick.specs.declared.Progress.{Progress}
 use Rattle.quick.specs.declared.StepAnswer.{StepAnswer}
 use Rattle.quick.specs.declared.StepAnswer.the-variants.{Send, Nothing, Refused}
@@ -175,9 +175,9 @@ module _ (p : Party) (m output : List ℕ) where
   at-half-opens other third Open q = never (cc)
   at-half-opens other third GivenUp q = never (cc)
 
-  at-sent : isLonger (shapeOf m) ≡ true → takenCode (sentOf p) m ≡ 0 → (s : State) → s ≡ Sent → atInitiator (p .end) m (p .sent) (p .got) output s ≡ opened (p .end) m (p .sent) (p .got) output
+  at-sent : isLonger (shapeOf m) ≡ true → takenCode (shapeOf m) (sentOf p) m ≡ 0 → (s : State) → s ≡ Sent → atInitiator (p .end) m (p .sent) (p .got) output s ≡ opened (p .end) m (p .sent) (p .got) output
   unfolding atInitiator
-  at-sent long taken Sent q = rw (long, eq-eqb (takenCode (sentOf p) m) 0 taken)
+  at-sent long taken Sent q = rw (long, eq-eqb (takenCode (shapeOf m) (sentOf p) m) 0 taken)
   at-sent long taken Idle q = never (cc)
   at-sent long taken Half q = never (cc)
   at-sent long taken Open q = never (cc)
@@ -309,8 +309,8 @@ module _ (i r : Party) (pair : Pair (i .end .own) (r .end .own)) (a : Ask (i .en
         called i (deliver m true output) ≡ opened (i .end) m (i .sent) (i .got) output
     sent-opens m output q k s room =
         let passes = two-passes m s (not-idle-sent (stateOf i) q) (k .its-id) in
-        let taken : takenCode (sentOf i) m ≡ 0 =
-        ap (λ (n : List ℕ). takenCode n m) (k .its-sent)
+        let taken : takenCode (shapeOf m) (sentOf i) m ≡ 0 =
+        ap (λ (n : List ℕ). takenCode (shapeOf m) n m) (k .its-sent)
         ∙ two-taken (i .end .own) (r .end .own) (a .id) (a .first) (a .second) (gotOf r) (R .number) (R .line) (R .transforms) (its-answer i r [] fr pair a R) m s in
         taken-first i m output room (sent-up (stateOf i) q) (passes .0) (pair .is-first) ∙ at-sent i m output (passes .1) taken (stateOf i) q
 

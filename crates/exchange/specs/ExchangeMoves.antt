@@ -22,13 +22,13 @@ use Rattle.policy.specs.declared.Choice.{Choice}
 use Rattle.policy.specs.declared.Choice.the-variants as choices
 use Rattle.quick.specs.Messages.{bookOf, lines, messageOne}
 use Rattle.message.specs.Message.{message}
-use Rattle.quick.specs.Checks.{isLonger, alike, isIdle, isInitiator, readCode, shapeOf, takenCode}
+use Rattle.checks.specs.Checks.{isLonger, alike, isIdle, isInitiator, readCode, shapeOf, takenCode}
 use Rattle.quick.specs.Ends.{After, small, kept, isGivenUp, isOpen, refusing, nothing, repeating, sending, identitiesWrong, beginCode, begun, tickCode, withState, oneMore, ticked, deliveryCode, opened, atInitiator, halfway, answered, atResponder, delivered}
-use Rattle.quick.specs.declared.Role.{Role}
-use Rattle.quick.specs.declared.Role.the-variants.{Initiator, Responder}
-use Rattle.quick.specs.declared.State.{State}
-use Rattle.quick.specs.declared.State.the-variants.{Idle, Sent, Half, Open, GivenUp}
-use Rattle.quick.specs.declared.Own.{Own}
+use Rattle.checks.specs.declared.Role.{Role}
+use Rattle.checks.specs.declared.Role.the-variants.{Initiator, Responder}
+use Rattle.checks.specs.declared.State.{State}
+use Rattle.checks.specs.declared.State.the-variants.{Idle, Sent, Half, Open, GivenUp}
+use Rattle.checks.specs.declared.Own.{Own}
 use Rattle.quick.specs.declared.End.{End}
 use Rattle.quick.specs.declared.StepAnswer.the-variants.{Refused}
 use Rattle.quick.proofs.Shapes.{Identities}
@@ -277,7 +277,7 @@ module _ (p : Party) (other : List (List ℕ)) where
   at-first m output room h Sent q =
       by-test (not (isLonger (shapeOf m))) (λ e. rw e (MoveI.refuses output _))
       (λ e.
-      by-test (not (eqb (takenCode (kept (p .end .progress .sentsize) (p .sent)) m) 0)) (λ f. rw (e, f) (MoveI.refuses output _)) (λ f. rw (e, f) (MoveI.opens m output room q h)))
+      by-test (not (eqb (takenCode (shapeOf m) (kept (p .end .progress .sentsize) (p .sent)) m) 0)) (λ f. rw (e, f) (MoveI.refuses output _)) (λ f. rw (e, f) (MoveI.opens m output room q h)))
   at-first m output room h Open q = by-test (alike m (kept (p .end .progress .gotsize) (p .got))) (λ e. rw e (MoveI.repeats output room q)) (λ e. rw e (MoveI.refuses output _))
   at-first m output room h Idle q = MoveI.refuses output _
   at-first m output room h Half q = MoveI.refuses output _

@@ -15,14 +15,14 @@ use Rattle.policy.specs.declared.LineNumber.{LineNumber}
 use Rattle.policy.specs.declared.Transforms.{Transforms}
 use Rattle.policy.specs.declared.Choice.the-variants.{Chosen}
 use Rattle.quick.specs.Messages.{bookOf, nonceOf, messageThree}
-use Rattle.quick.specs.Checks.{alike, spisOf, ownSpis, agreedTwo, nonceIn, nonce}
+use Rattle.checks.specs.Checks.{alike, spisOf, ownSpis, agreedTwo, nonceIn, nonce}
 use Rattle.quick.specs.Ends.{After, kept, nothing, repeating, sending, withState, oneMore, opened, halfway}
-use Rattle.quick.proofs.Laws.{alike-same, alike-sym, alike-trans}
-use Rattle.quick.specs.declared.Role.the-variants.{Initiator, Responder}
-use Rattle.quick.specs.declared.State.{State}
-use Rattle.quick.specs.declared.State.the-variants.{Idle, Sent, Half, Open, GivenUp}
-use Rattle.quick.specs.declared.Own.{Own}
-use Rattle.quick.specs.declared.Agreed.{Agreed}
+use Rattle.checks.proofs.Laws.{alike-same, alike-sym, alike-trans}
+use Rattle.checks.specs.declared.Role.the-variants.{Initiator, Responder}
+use Rattle.checks.specs.declared.State.{State}
+use Rattle.checks.specs.declared.State.the-variants.{Idle, Sent, Half, Open, GivenUp}
+use Rattle.checks.specs.declared.Own.{Own}
+use Rattle.checks.specs.declared.Agreed.{Agreed}
 use Rattle.quick.specs.declared.Progress.{Progress}
 use Rattle.quick.proofs.Shapes.{Fit, Framed, Answered, replyTo}
 use Rattle.quick.proofs.MessageLaws.{third-reads}

@@ -12,8 +12,8 @@ use Rattle.receive.specs.declared.Receive.{Receive}
 use Rattle.receive.specs.declared.Judged.{Judged}
 use Rattle.receive.specs.declared.Verdict.{Verdict}
 use Rattle.receive.specs.declared.Verdict.the-variants as Y
-use Rattle.quick.specs.declared.State.{State}
-use Rattle.quick.specs.declared.State.the-variants.{Idle, Sent, Half, Open, GivenUp}
+use Rattle.checks.specs.declared.State.{State}
+use Rattle.checks.specs.declared.State.the-variants.{Idle, Sent, Half, Open, GivenUp}
 use Rattle.quick.specs.declared.StepAnswer.{StepAnswer}
 use Rattle.quick.specs.declared.StepAnswer.the-variants as answers
 use Rattle.quick.specs.declared.End.{End}

@@ -1,11 +1,11 @@
 // The functions that another language calls: thin, on bytes and numbers; an answer of several parts is packed in one number.
+use checks::Role;
+use checks::State;
 use message::Message;
 use policy::Choice;
 use policy::LineNumber;
 use policy::Transforms;
 use quick::End;
-use quick::Role;
-use quick::State;
 use quick::StepAnswer;
 use quick::Stepped;
 use quick::begin::begin;
@@ -24,7 +24,7 @@ ghost use Rattle.policy.specs.Choice.{choice};
 ghost use Rattle.policy.specs.declared.Choice.the-variants.{Chosen};
 ghost use Rattle.receive.specs.Receive.{judged};
 ghost use Rattle.sequence.specs.Table.{packet};
-ghost use Rattle.quick.specs.declared.Role.the-variants.{Initiator, Responder};
+ghost use Rattle.checks.specs.declared.Role.the-variants.{Initiator, Responder};
 ghost use Rattle.quick.specs.Ends.{After, fresh};
 ghost use Rattle.exports.specs.Exports.{packed, choicePacked, verdictPacked, judgedPacked, packetPacked, stateNumber, sendSize, given, Exchanged, exchanged};
 

@@ -21,7 +21,7 @@ use Rattle.policy.specs.Choice as choices
 use Rattle.promises.specs.History.{packetsOf, lastOf, lossOf, answered, answeredAll}
 use Rattle.quick.specs.Messages as messages
 use Rattle.quick.specs.Ends as ends
-use Rattle.quick.specs.declared.Role.the-variants.{Initiator}
+use Rattle.checks.specs.declared.Role.the-variants.{Initiator}
 use Rattle.receive.specs.Receive as receive
 use Rattle.packets.specs.Packets as packets
 use Rattle.sequence.specs.Table as tables

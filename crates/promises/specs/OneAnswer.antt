@@ -140,8 +140,30 @@ use Rattle.quick.proofs.deliver.deliver.Kinds as quick-deliver-kinds
 use Rattle.quick.proofs.deliver.deliver.Reads as quick-deliver-reads
 use Rattle.quick.proofs.tick.tick.Kinds as quick-tick-kinds
 use Rattle.quick.proofs.tick.tick.Reads as quick-tick-reads
-use Rattle.quick.proofs.reading.nonce.Kinds as quick-nonce-kinds
-use Rattle.quick.proofs.reading.nonce.Reads as quick-nonce-reads
+use Rattle.checks.proofs.shape.Kinds as checks-shape-kinds
+use Rattle.checks.proofs.shape.Reads as checks-shape-reads
+use Rattle.checks.proofs.is_longer.Kinds as checks-is-longer-kinds
+use Rattle.checks.proofs.is_longer.Reads as checks-is-longer-reads
+use Rattle.checks.proofs.alike.Kinds as checks-alike-kinds
+use Rattle.checks.proofs.alike.Reads as checks-alike-reads
+use Rattle.checks.proofs.is_idle.Kinds as checks-is-idle-kinds
+use Rattle.checks.proofs.is_idle.Reads as checks-is-idle-reads
+use Rattle.checks.proofs.is_initiator.Kinds as checks-is-initiator-kinds
+use Rattle.checks.proofs.is_initiator.Reads as checks-is-initiator-reads
+use Rattle.checks.proofs.read_code.Kinds as checks-read-code-kinds
+use Rattle.checks.proofs.read_code.Reads as checks-read-code-reads
+use Rattle.checks.proofs.count_of.Kinds as checks-count-of-kinds
+use Rattle.checks.proofs.count_of.Reads as checks-count-of-reads
+use Rattle.checks.proofs.taken_code.Kinds as checks-taken-code-kinds
+use Rattle.checks.proofs.taken_code.Reads as checks-taken-code-reads
+use Rattle.checks.proofs.spis_of.Kinds as checks-spis-of-kinds
+use Rattle.checks.proofs.spis_of.Reads as checks-spis-of-reads
+use Rattle.checks.proofs.own_spis.Kinds as checks-own-spis-kinds
+use Rattle.checks.proofs.own_spis.Reads as checks-own-spis-reads
+use Rattle.checks.proofs.agreed_two.Kinds as checks-agreed-two-kinds
+use Rattle.checks.proofs.agreed_two.Reads as checks-agreed-two-reads
+use Rattle.checks.proofs.nonce.Kinds as checks-nonce-kinds
+use Rattle.checks.proofs.nonce.Reads as checks-nonce-reads
 use Rattle.reply.proofs.put_reply.Kinds as reply-put-reply-kinds
 use Rattle.reply.proofs.put_reply.Reads as reply-put-reply-reads
 use Rattle.reply.proofs.reply.Kinds as reply-reply-kinds
@@ -382,8 +404,41 @@ quick-deliver κs arguments x y s t p q = sym p ∙ q
 pub quick-tick : OneAnswer 3 quick-tick-kinds.ps quick-tick-kinds.r {A = Stepped × List ℕ} (λ κs x s. (x, now (s .1 .1 .1 .0))) quick-tick-reads.Post
 quick-tick κs arguments x y s t p q = ap (λ (a : After). (a .step, a .output)) (sym p ∙ q)
 
-pub quick-nonce : OneAnswer 1 quick-nonce-kinds.ps quick-nonce-kinds.r (λ κs x s. now x) quick-nonce-reads.Post
-quick-nonce κs arguments x y s t p q = p ∙ sym q
+pub checks-shape : OneAnswer 1 checks-shape-kinds.ps checks-shape-kinds.r (λ κs x s. x) checks-shape-reads.Post
+checks-shape κs arguments x y s t p q = p ∙ sym q
+
+pub checks-is-longer : OneAnswer 0 checks-is-longer-kinds.ps checks-is-longer-kinds.r (λ κs x s. x) checks-is-longer-reads.Post
+checks-is-longer κs arguments x y s t p q = p ∙ sym q
+
+pub checks-alike : OneAnswer 2 checks-alike-kinds.ps checks-alike-kinds.r (λ κs x s. x) checks-alike-reads.Post
+checks-alike κs arguments x y s t p q = p ∙ sym q
+
+pub checks-is-idle : OneAnswer 0 checks-is-idle-kinds.ps checks-is-idle-kinds.r (λ κs x s. x) checks-is-idle-reads.Post
+checks-is-idle κs arguments x y s t p q = p ∙ sym q
+
+pub checks-is-initiator : OneAnswer 0 checks-is-initiator-kinds.ps checks-is-initiator-kinds.r (λ κs x s. x) checks-is-initiator-reads.Post
+checks-is-initiator κs arguments x y s t p q = p ∙ sym q
+
+pub checks-read-code : OneAnswer 1 checks-read-code-kinds.ps checks-read-code-kinds.r (λ κs x s. x) checks-read-code-reads.Post
+checks-read-code κs arguments x y s t p q = p ∙ sym q
+
+pub checks-count-of : OneAnswer 0 checks-count-of-kinds.ps checks-count-of-kinds.r (λ κs x s. x) checks-count-of-reads.Post
+checks-count-of κs arguments x y s t p q = p ∙ sym q
+
+pub checks-taken-code : OneAnswer 2 checks-taken-code-kinds.ps checks-taken-code-kinds.r (λ κs x s. x) checks-taken-code-reads.Post
+checks-taken-code κs arguments x y s t p q = p ∙ sym q
+
+pub checks-spis-of : OneAnswer 1 checks-spis-of-kinds.ps checks-spis-of-kinds.r (λ κs x s. x) checks-spis-of-reads.Post
+checks-spis-of κs arguments x y s t p q = p ∙ sym q
+
+pub checks-own-spis : OneAnswer 1 checks-own-spis-kinds.ps checks-own-spis-kinds.r (λ κs x s. x) checks-own-spis-reads.Post
+checks-own-spis κs arguments x y s t p q = p ∙ sym q
+
+pub checks-agreed-two : OneAnswer 2 checks-agreed-two-kinds.ps checks-agreed-two-kinds.r (λ κs x s. x) checks-agreed-two-reads.Post
+checks-agreed-two κs arguments x y s t p q = p ∙ sym q
+
+pub checks-nonce : OneAnswer 1 checks-nonce-kinds.ps checks-nonce-kinds.r (λ κs x s. now x) checks-nonce-reads.Post
+checks-nonce κs arguments x y s t p q = p ∙ sym q
 
 pub reply-put-reply : OneAnswer 2 reply-put-reply-kinds.ps reply-put-reply-kinds.r {A = ℕ × List ℕ} (λ κs x s. (x, now (s .0))) reply-put-reply-reads.Post
 reply-put-reply κs arguments x y s t p q = sym p ∙ q

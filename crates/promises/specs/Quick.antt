@@ -11,11 +11,11 @@ use Rattle.wire.specs.Answer.{Answer}
 use Rattle.wire.proofs.Tests.{never, by-test}
 use Rattle.policy.specs.declared.Choice.{Choice}
 use Rattle.policy.specs.declared.Choice.the-variants as choices
-use Rattle.quick.specs.Checks.{isLonger, alike, isInitiator, shapeOf, takenCode}
+use Rattle.checks.specs.Checks.{isLonger, alike, isInitiator, shapeOf, takenCode}
 use Rattle.quick.specs.Ends.{After, small, kept, refusing, beginCode, begun, tickCode, isOpen, ticked, deliveryCode, opened, atInitiator, halfway, answered, atResponder, delivered, answer}
 use Rattle.quick.specs.declared.End.{End}
-use Rattle.quick.specs.declared.State.{State}
-use Rattle.quick.specs.declared.State.the-variants.{Idle, Sent, Half, Open, GivenUp}
+use Rattle.checks.specs.declared.State.{State}
+use Rattle.checks.specs.declared.State.the-variants.{Idle, Sent, Half, Open, GivenUp}
 use Rattle.quick.specs.declared.StepAnswer.{StepAnswer}
 use Rattle.quick.specs.declared.StepAnswer.the-variants.{Send, Nothing, Refused}
 use Rattle.exchange.specs.Exchange.{World, Run, Fresh}
@@ -51,7 +51,7 @@ module _ (end : End) (sent got output : List ℕ) where
     unfolding atInitiator opened
     initiator-refused Sent =
         by-test (not (isLonger (shapeOf m))) (λ e. rw e (refuses _))
-        (λ e. by-test (not (eqb (takenCode (kept (end .progress .sentsize) sent) m) 0)) (λ f. rw (e, f) (refuses _)) (λ f. rw (e, f) (sends _ _ refl)))
+        (λ e. by-test (not (eqb (takenCode (shapeOf m) (kept (end .progress .sentsize) sent) m) 0)) (λ f. rw (e, f) (refuses _)) (λ f. rw (e, f) (sends _ _ refl)))
     initiator-refused Open = by-test (alike m (kept (end .progress .gotsize) got)) (λ e. rw e (sends _ _ refl)) (λ e. rw e (refuses _))
     initiator-refused Idle = refuses _
     initiator-refused Half = refuses _

@@ -26,13 +26,13 @@ use Rattle.policy.specs.declared.Transforms.{Transforms}
 use Rattle.policy.specs.declared.Choice.{Choice}
 use Rattle.policy.specs.declared.Choice.the-variants as choices
 use Rattle.quick.specs.Messages.{bookOf, lines, longer, proposalsOf, messageOne, messageTwo, messageThree}
-use Rattle.quick.specs.Checks.{shape, isLonger, alike, cookiesWrong, isIdle, isInitiator, quickCode, readCode, countOf, shapeOf, takenCode, spisOf, ownSpis, agreedTwo}
+use Rattle.checks.specs.Checks.{shape, isLonger, alike, cookiesWrong, isIdle, isInitiator, quickCode, readCode, countOf, shapeOf, takenCode, spisOf, ownSpis, agreedTwo}
 use Rattle.quick.specs.Ends.{freshCode, idle, ownOf, fresh, small, kept, isGivenUp, isOpen, tickCode, withState, oneMore, ticked, identitiesWrong, beginCode, begun, repeated, deliveryCode, identityAt, opened, atInitiator, halfway, answered, atResponder, delivered}
-use Rattle.quick.specs.declared.Role.{Role}
-use Rattle.quick.specs.declared.State.{State}
-use Rattle.quick.specs.declared.State.the-variants.{Idle, Sent, Half, Open, GivenUp}
-use Rattle.quick.specs.declared.Own.{Own}
-use Rattle.quick.specs.declared.Agreed.{Agreed}
+use Rattle.checks.specs.declared.Role.{Role}
+use Rattle.checks.specs.declared.State.{State}
+use Rattle.checks.specs.declared.State.the-variants.{Idle, Sent, Half, Open, GivenUp}
+use Rattle.checks.specs.declared.Own.{Own}
+use Rattle.checks.specs.declared.Agreed.{Agreed}
 use Rattle.quick.specs.declared.Progress.{Progress}
 use Rattle.quick.specs.declared.Proposals.the-variants.{Offer, Reply}
 use Rattle.quick.specs.declared.End.{End}
@@ -484,7 +484,7 @@ module _ (e : End) (m sent got output : List ℕ) where
     unfolding atInitiator
     two-other h r er = rw (← es, ← el, h, er)
 
-    module _ (longer : not long ≡ false) (k : List ℕ) (code : ℕ) (ek : k ≡ kept (e .progress .sentsize) sent) (ec : code ≡ takenCode k m) (r : Stepped) where
+    module _ (longer : not long ≡ false) (k : List ℕ) (code : ℕ) (ek : k ≡ kept (e .progress .sentsize) sent) (ec : code ≡ takenCode found k m) (r : Stepped) where
       pub two-refused : (code ≡ 0 → ⊥) → r ≡ record { end = e; answer = Refused code } → atInitiator e m sent got output Sent ≡ record { step = r; sent = sent; got = got; output = output }
       unfolding atInitiator
       two-refused h er = rw (← es, ← el, longer, ← ek, ← ec, ne-eqb code 0 h, er)

@@ -27,11 +27,11 @@ use Rattle.message.specs.declared.Message.the-variants.{Read}
 use Rattle.policy.specs.Choice.{bodyAt}
 use Rattle.reply.specs.Reply.{saOf}
 use Rattle.quick.specs.Messages.{nonceOf, hash, padding, padded, header, messageOf, nonceAndIdentities, longer, messageThree}
-use Rattle.quick.specs.Checks.{alike, kindIs, shape, countOf, shapeOf, isLonger, nonceRead, nonceIn, cookiesWrong, isIdle, isInitiator, quickCode, readCode}
+use Rattle.checks.specs.Checks.{alike, kindIs, shape, countOf, shapeOf, isLonger, nonceRead, nonceIn, cookiesWrong, isIdle, isInitiator, quickCode, readCode}
 use Rattle.quick.specs.Ends.{identityAt}
-use Rattle.quick.specs.declared.Own.{Own}
-use Rattle.quick.specs.declared.State.{State}
-use Rattle.quick.proofs.Laws.{Alike, alike-says}
+use Rattle.checks.specs.declared.Own.{Own}
+use Rattle.checks.specs.declared.State.{State}
+use Rattle.checks.proofs.Laws.{Alike, alike-says}
 use Rattle.quick.proofs.Shapes.{Fit, payloadsWith, saBody, Framed, Longer, Identities, Third}
 
 -- ---- one payload

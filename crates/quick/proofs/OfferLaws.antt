@@ -27,7 +27,7 @@ use Rattle.suits.specs.Suits.{quickId}
 use Rattle.reply.specs.Reply.{ownSpi, fields, proposalOf}
 use Rattle.quick.specs.Messages.{bookOf, fixed, integrity, attributes, transformOne, lineProposal, lineSet, nextSet, lineSets, lines, offerOf}
 use Rattle.quick.proofs.Shapes.{saBody, Fit}
-use Rattle.quick.specs.declared.Own.{Own}
+use Rattle.checks.specs.declared.Own.{Own}
 
 -- ---- the transform of a line
 

@@ -15,9 +15,9 @@ use Rattle.message.specs.declared.Message.the-variants.{Read}
 use Rattle.book.specs.Book.{bookInFront, bookSize}
 use Rattle.policy.specs.Choice.{bodyAt, chooseFrom}
 use Rattle.quick.specs.Messages.{bookOf, nonceOf, lines, longer, messageOne, messageTwo}
-use Rattle.quick.specs.Checks.{shapeOf, nonceIn, alike}
+use Rattle.checks.specs.Checks.{shapeOf, nonceIn, alike}
 use Rattle.quick.specs.Ends.{identityAt}
-use Rattle.quick.specs.declared.Own.{Own}
+use Rattle.checks.specs.declared.Own.{Own}
 use Rattle.sets.specs.Parts.{setNumbered}
 use Rattle.sets.specs.declared.ProposalNumber.{ProposalNumber}
 use Rattle.policy.specs.declared.LineNumber.{LineNumber}

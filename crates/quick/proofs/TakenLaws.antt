@@ -31,10 +31,10 @@ use Rattle.policy.proofs.Laws.{Choosing, fourteen, chose, choosing, Suits, suit
 use Rattle.policy.proofs.SuitLaws.{Known, isakmp, ah-of, esp-of, known-of, chosenIn, taken, shape}
 use Rattle.reply.proofs.ReplyLaws.{Repeats, reply-repeats, reply-short}
 use Rattle.quick.specs.Messages.{bookOf, offerOf, proposalsOf, longer, messageOne, messageTwo, lines}
-use Rattle.quick.specs.Checks.{alike, shapeOf, proposalTaken, setTaken, repliedSet, offeredSet, identitiesSame, takenCode, spisOf, transformsIn, spiFor, ownSpis, agreedTwo}
+use Rattle.checks.specs.Checks.{alike, shapeOf, proposalTaken, setTaken, repliedSet, offeredSet, identitiesSame, takenCode, spisOf, transformsIn, spiFor, ownSpis, agreedTwo}
 use Rattle.quick.specs.Ends.{identityAt}
-use Rattle.quick.specs.declared.Own.{Own}
-use Rattle.quick.proofs.Laws.{alike-same}
+use Rattle.checks.specs.declared.Own.{Own}
+use Rattle.checks.proofs.Laws.{alike-same}
 use Rattle.quick.proofs.Shapes.{payloadsWith, saBody, Longer, Answered, replyTo, Fit, Identities}
 use Rattle.quick.proofs.MessageLaws.{longer-reads}
 use Rattle.quick.proofs.OfferLaws.{offer-reads, offer-short, offer-count, offer-transform}
@@ -186,7 +186,7 @@ module _ (ah esp : ℕ) (s r : List ℕ) (as-many : proposalCount r ≡ proposal
 -- ---- "identities equal those sent"
 
 module _ (sent m first second : List ℕ) (shape-sent : shapeOf sent ≡ payloadsWith first) (shape-m : shapeOf m ≡ payloadsWith first) where
-  same-identities : identityAt 3 sent ≡ first → identityAt 4 sent ≡ second → identityAt 3 m ≡ first → identityAt 4 m ≡ second → identitiesSame sent m ≡ true
+  same-identities : identityAt 3 sent ≡ first → identityAt 4 sent ≡ second → identityAt 3 m ≡ first → identityAt 4 m ≡ second → identitiesSame (shapeOf m) sent m ≡ true
   unfolding identitiesSame identityAt payloadsWith
   same-identities a b c d =
       by-test (eqb (length first) 0)
@@ -307,7 +307,7 @@ module _ (one two : Own) (id : ℕ) (first second g : List ℕ) (number : Propos
     unfolding offeredSet
     offered-is = rw (replied-is, reply-number, sent .sa) (choice .by-number)
 
-    answer-taken : takenCode (messageOne one id first second) n ≡ 0
+    answer-taken : takenCode (shapeOf n) (messageOne one id first second) n ≡ 0
     unfolding takenCode
     answer-taken =
         let whole : setTaken (set 0 reply) s ≡ true = set-taken (two .ah) (two .esp) s (set 0 reply) (repeats .as-many) few proposal-answers in
@@ -330,7 +330,7 @@ two-reads one two id first second g number line transforms answered n from =
 
 pub two-taken : (one two : Own) (id : ℕ) (first second g : List ℕ) (number : ProposalNumber) (line : LineNumber) (transforms : Transforms) →
     Answered one two id first second g number line transforms → (n : List ℕ) → alike n (replyTo two g number transforms) ≡ true →
-    takenCode (messageOne one id first second) n ≡ 0
+    takenCode (shapeOf n) (messageOne one id first second) n ≡ 0
 two-taken one two id first second g number line transforms answered n from = answer-taken one two id first second g number line transforms answered n from
 
 pub two-agreed : (one two : Own) (id : ℕ) (first second g : List ℕ) (number : ProposalNumber) (line : LineNumber) (transforms : Transforms) →

@@ -17,7 +17,7 @@ use Rattle.reply.specs.Reply.{ownSpi, proposalOf, setReply, saOf}
 use Rattle.reply.proofs.ReplyWays.{proposal-size, set-size, sa-size, sa-written}
 use Rattle.policy.specs.declared.Transforms.{Transforms}
 use Rattle.quick.specs.Messages.{bookOf, nonceOf, fixed, integrity, attributes, transformOne, lineProposal, lineSet, nextSet, lineSets, lines, offerOf, hash, padding, padded, header, messageOf, around, nonceAndIdentities, proposalsOf, longer, messageThree}
-use Rattle.quick.specs.declared.Own.{Own}
+use Rattle.checks.specs.declared.Own.{Own}
 use Rattle.quick.specs.declared.Proposals.{Proposals}
 use Rattle.quick.specs.declared.Proposals.the-variants.{Offer, Reply}
 

@@ -18,14 +18,14 @@ use Rattle.policy.specs.declared.Transforms.the-variants.{One}
 use Rattle.policy.specs.declared.Choice.{Choice}
 use Rattle.policy.specs.declared.Choice.the-variants as choices
 use Rattle.quick.specs.Messages.{bookOf, lines, messageOne, messageTwo, messageThree}
-use Rattle.quick.specs.Checks.{isLonger, alike, isIdle, isInitiator, readCode, shapeOf, takenCode, spisOf, ownSpis, agreedTwo}
-use Rattle.quick.specs.declared.Role.{Role}
-use Rattle.quick.specs.declared.Role.the-variants.{Initiator, Responder}
-use Rattle.quick.specs.declared.State.{State}
-use Rattle.quick.specs.declared.State.the-variants.{Idle, Sent, Half, Open, GivenUp}
-use Rattle.quick.specs.declared.Own.{Own}
-use Rattle.quick.specs.declared.Spis.the-variants.{Alone}
-use Rattle.quick.specs.declared.Agreed.{Agreed}
+use Rattle.checks.specs.Checks.{isLonger, alike, isIdle, isInitiator, readCode, shapeOf, takenCode, spisOf, ownSpis, agreedTwo}
+use Rattle.checks.specs.declared.Role.{Role}
+use Rattle.checks.specs.declared.Role.the-variants.{Initiator, Responder}
+use Rattle.checks.specs.declared.State.{State}
+use Rattle.checks.specs.declared.State.the-variants.{Idle, Sent, Half, Open, GivenUp}
+use Rattle.checks.specs.declared.Own.{Own}
+use Rattle.checks.specs.declared.Spis.the-variants.{Alone}
+use Rattle.checks.specs.declared.Agreed.{Agreed}
 use Rattle.quick.specs.declared.Progress.{Progress}
 use Rattle.quick.specs.declared.End.{End}
 use Rattle.quick.specs.declared.Made.{Made}
@@ -244,7 +244,7 @@ module _ (end : End) (m sent got output : List ℕ) where
   unfoldable pub atInitiator : State → After
   atInitiator Sent =
       if not (isLonger (shapeOf m)) then refusing end sent got output 8195
-      else if not (eqb (takenCode keptSent m) 0) then refusing end sent got output (takenCode keptSent m)
+      else if not (eqb (takenCode (shapeOf m) keptSent m) 0) then refusing end sent got output (takenCode (shapeOf m) keptSent m)
       else opened
   atInitiator Open =
       if alike m keptGot then repeating end sent got output (end .progress)

@@ -1,3 +1,2 @@
 pub mod Messages
-pub mod Checks
 pub mod Ends

@@ -10,7 +10,7 @@ use Rattle.book.specs.Book.{quickCount, quickProtocols, quickMode, quickSeconds
 use Rattle.suits.specs.Suits.{quickId}
 use Rattle.reply.specs.Reply.{ownSpi, proposalOf, setReply, saOf}
 use Rattle.policy.specs.declared.Transforms.{Transforms}
-use Rattle.quick.specs.declared.Own.{Own}
+use Rattle.checks.specs.declared.Own.{Own}
 use Rattle.quick.specs.declared.Proposals.{Proposals}
 use Rattle.quick.specs.declared.Proposals.the-variants.{Offer, Reply}
 

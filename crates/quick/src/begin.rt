@@ -2,15 +2,15 @@
 use crate::End;
 use crate::Progress;
 use crate::Proposals;
-use crate::State;
 use crate::StepAnswer;
 use crate::Stepped;
-use crate::reading::is_idle;
-use crate::reading::is_initiator;
 use crate::tick::is_given_up;
 use crate::tick::small;
 use crate::writing::lines;
 use crate::writing::put_longer;
+use checks::State;
+use checks::is_idle;
+use checks::is_initiator;
 use wire::front;
 ghost use mathlib.Core.Path.{_≡_};
 ghost use Rattle.quick.specs.Ends.{After, identitiesWrong, beginCode, begun};

@@ -1,22 +1,9 @@
 // A delivery: the checks, then what each end does in each state. A message is read once, and the shape that was found handed on.
-use crate::Agreed;
 use crate::End;
-use crate::Own;
 use crate::Progress;
 use crate::Proposals;
-use crate::State;
 use crate::StepAnswer;
 use crate::Stepped;
-use crate::reading::agreed_two;
-use crate::reading::alike;
-use crate::reading::count_of;
-use crate::reading::is_initiator;
-use crate::reading::is_longer;
-use crate::reading::own_spis;
-use crate::reading::read_code;
-use crate::reading::shape;
-use crate::reading::spis_of;
-use crate::reading::taken_code;
 use crate::tick::is_given_up;
 use crate::tick::kept;
 use crate::tick::kept_size;
@@ -24,6 +11,19 @@ use crate::tick::small;
 use crate::tick::with_state;
 use crate::writing::put_longer;
 use crate::writing::put_three;
+use checks::Agreed;
+use checks::Own;
+use checks::State;
+use checks::agreed_two;
+use checks::alike;
+use checks::count_of;
+use checks::is_initiator;
+use checks::is_longer;
+use checks::own_spis;
+use checks::read_code;
+use checks::shape;
+use checks::spis_of;
+use checks::taken_code;
 use policy::Choice;
 use policy::Transforms;
 use policy::choose::body_at;
@@ -40,11 +40,11 @@ ghost use lib.ListN.{length};
 ghost use Rattle.wire.specs.Wire.{numberAt, put};
 ghost use Rattle.wire.specs.Tests.{if_then_else_};
 ghost use Rattle.quick.specs.declared.StepAnswer.the-variants.{Refused};
-ghost use Rattle.quick.specs.declared.State.the-variants.{Idle, Sent, Half};
+ghost use Rattle.checks.specs.declared.State.the-variants.{Idle, Sent, Half};
 ghost use Rattle.sets.specs.Parts.{setNumbered};
 ghost use Rattle.policy.specs.Choice.{bodyAt};
 ghost use Rattle.quick.specs.Messages.{messageTwo};
-ghost use Rattle.quick.specs.Checks.{shapeOf, spisOf, ownSpis};
+ghost use Rattle.checks.specs.Checks.{shapeOf, spisOf, ownSpis};
 ghost use Rattle.quick.specs.Ends.{After, isGivenUp, opened, repeated, atInitiator, identityAt, halfway, answered, atResponder, delivered};
 
 // The checks before the reading: 0, or the refusal.
@@ -127,7 +127,7 @@ fn take_two(
     if !is_longer(found) {
         return refuse(end, 8195);
     }
-    let code = taken_code(kept(progress.sentsize, sent), m, found);
+    let code = taken_code(found, kept(progress.sentsize, sent), m);
     if code != 0 {
         return refuse(end, code);
     }

@@ -1,14 +1,14 @@
 // A fresh end.
-use crate::Agreed;
 use crate::End;
 use crate::Made;
-use crate::Own;
 use crate::Progress;
-use crate::Role;
-use crate::Spis;
-use crate::State;
 use book::book_in_front;
 use book::book_size;
+use checks::Agreed;
+use checks::Own;
+use checks::Role;
+use checks::Spis;
+use checks::State;
 use policy::Transforms;
 use sets::ProposalNumber;
 use sets::TransformNumber;

@@ -1,10 +1,10 @@
 // A tick: an end that waits sends its kept message again, up to four sends.
 use crate::End;
 use crate::Progress;
-use crate::State;
 use crate::StepAnswer;
 use crate::Stepped;
-use crate::reading::is_idle;
+use checks::State;
+use checks::is_idle;
 use wire::front;
 use wire::put_bytes;
 ghost use mathlib.Core.Path.{_≡_};

@@ -1,10 +1,10 @@
 // Writing the messages. What is lent for them has room: no message that an end writes is longer than 2,048 bytes.
-use crate::Own;
 use crate::Proposals;
 use book::quick_count;
 use book::quick_mode;
 use book::quick_protocols;
 use book::quick_seconds;
+use checks::Own;
 use policy::Transforms;
 use reply::put_proposal;
 use reply::put_reply;

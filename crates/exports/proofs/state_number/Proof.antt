@@ -1,8 +1,8 @@
 -- Each arm knows the state.
 use mathlib.Core.Path.{_≡_}
 use borrow.Author.Needs.{needs}
-use Rattle.quick.specs.declared.State.{State}
-use Rattle.quick.specs.declared.State.the-variants.{Idle, Sent, Half, Open, GivenUp}
+use Rattle.checks.specs.declared.State.{State}
+use Rattle.checks.specs.declared.State.the-variants.{Idle, Sent, Half, Open, GivenUp}
 use Rattle.exports.specs.Exports.{stateNumber}
 use Rattle.exports.proofs.state_number.Statement.{statement}
 use Rattle.exports.proofs.state_number.Tie as tie

@@ -1,0 +1,156 @@
+-- What the ends ask of a message that is delivered, document 01, "Quick mode ends".
+use Prim.Native.Nat.{ℕ}
+use mathlib.Core.List.{List, []}
+use mathlib.Core.Bool.{Bool, true, false, not, _||_, _&&_}
+use lib.ListN.{length, getD, take, drop}
+use lib.Dec.{ltb, leb, eqb}
+use Rattle.wire.specs.Wire.{numberAt, equal}
+use Rattle.wire.specs.Tests.{if_then_else_}
+use Rattle.message.specs.Header.{flagsOf}
+use Rattle.message.specs.Message.{message, payloadAt}
+use Rattle.message.specs.declared.Message.{Message}
+use Rattle.message.specs.declared.Message.the-variants.{Refused, Read}
+use Rattle.sets.specs.Parts.{set, setCount, setNumbered, proposal, proposalCount, proposalNumber, protocol, transform, transformCount, transformNumber}
+use Rattle.policy.specs.Choice.{bodyAt}
+use Rattle.policy.specs.declared.Transforms.{Transforms}
+use Rattle.policy.specs.declared.Transforms.the-variants.{One, Two}
+use Rattle.checks.specs.declared.Role.{Role}
+use Rattle.checks.specs.declared.Role.the-variants.{Initiator, Responder}
+use Rattle.checks.specs.declared.State.{State}
+use Rattle.checks.specs.declared.State.the-variants.{Idle, Sent, Half, Open, GivenUp}
+use Rattle.checks.specs.declared.Own.{Own}
+use Rattle.checks.specs.declared.Spis.{Spis}
+use Rattle.checks.specs.declared.Spis.the-variants.{Alone, Both}
+use Rattle.checks.specs.declared.Agreed.{Agreed}
+
+-- "shape 8-1-10, 8-1-10-5-5 or 8 alone": the count of payloads, 0 where the shape is another
+unfoldable pub kindIs : ℕ → List ℕ → ℕ → Bool
+kindIs k m kind = eqb (payloadAt k m .kind) kind
+
+unfoldable pub shape : ℕ → List ℕ → ℕ
+shape count m =
+    if kindIs 0 m 8
+    && (eqb count 1 || kindIs 1 m 1 && kindIs 2 m 10 && (eqb count 3 || eqb count 5 && kindIs 3 m 5 && kindIs 4 m 5))
+    then count else 0
+
+-- "either longer shape"
+unfoldable pub isLonger : ℕ → Bool
+isLonger shape = eqb shape 3 || eqb shape 5
+
+-- "'Equal' messages means equal apart from" the 32 hash bytes
+unfoldable pub alike : List ℕ → List ℕ → Bool
+alike m n = eqb (length m) (length n) && equal (take 32 m) (take 32 n) && equal (drop 64 m) (drop 64 n)
+
+-- "cookies (4)": both as this exchange has them
+unfoldable pub cookiesWrong : Own → List ℕ → Bool
+cookiesWrong own m = not (eqb (numberAt 8 m 0) (own .icookie) && eqb (numberAt 8 m 8) (own .rcookie))
+
+unfoldable pub isIdle : State → Bool
+isIdle Idle = true
+isIdle Sent = false
+isIdle Half = false
+isIdle Open = false
+isIdle GivenUp = false
+
+unfoldable pub isInitiator : Role → Bool
+isInitiator Initiator = true
+isInitiator Responder = false
+
+-- "exchange not 32 (7), flag not 1 (8), initiator Idle (8195), cookies (4), message ID (9; an Idle responder takes it), shape 8-1-10,
+-- 8-1-10-5-5 or 8 alone (16), over 2,048 bytes (30)"
+unfoldable pub quickCode : Own → State → ℕ → ℕ → ℕ → List ℕ → ℕ
+quickCode own state id exchange count m =
+    if not (eqb exchange 32) then 7
+    else if not (eqb (flagsOf m) 1) then 8
+    else if isInitiator (own .role) && isIdle state then 8195
+    else if cookiesWrong own m then 4
+    else if not (isIdle state) && not (eqb (numberAt 4 m 20) id) then 9
+    else if eqb (shape count m) 0 then 16
+    else if ltb 2048 (length m) then 30
+    else 0
+
+-- "reading", and then these
+unfoldable pub readCode : Own → State → ℕ → List ℕ → Message → ℕ
+readCode own state id m (Refused number) = number
+readCode own state id m (Read exchange count) = quickCode own state id exchange count m
+
+-- how many payloads a message that reads has, and its shape
+unfoldable pub countOf : Message → ℕ
+countOf (Refused number) = 0
+countOf (Read exchange count) = count
+
+unfoldable pub shapeOf : List ℕ → ℕ
+shapeOf m = shape (countOf (message m)) m
+
+-- "protocols, order and each transform as offered": one transform, byte for byte the offered one
+unfoldable pub proposalTaken : List ℕ → List ℕ → Bool
+proposalTaken p offered = eqb (protocol p) (protocol offered) && eqb (transformCount p) 1 && equal (transform 0 p) (transform 0 offered)
+
+unfoldable pub setTaken : List ℕ → List ℕ → Bool
+setTaken s offered =
+    eqb (proposalCount s) (proposalCount offered) && proposalTaken (proposal 0 s) (proposal 0 offered)
+    && (eqb (proposalCount s) 1 || proposalTaken (proposal 1 s) (proposal 1 offered))
+
+-- the set of a message 2, and the one that it has its number from in the message that was sent
+unfoldable pub repliedSet : List ℕ → List ℕ
+repliedSet m = set 0 (bodyAt 1 m)
+
+unfoldable pub offeredSet : List ℕ → List ℕ → List ℕ
+offeredSet sent m = setNumbered (proposalNumber (proposal 0 (repliedSet m))) (bodyAt 1 sent)
+
+-- "identities equal those sent", m being of this shape
+unfoldable pub identitiesSame : ℕ → List ℕ → List ℕ → Bool
+identitiesSame found sent m =
+    eqb found (shapeOf sent) && (eqb found 3 || equal (bodyAt 3 m) (bodyAt 3 sent) && equal (bodyAt 4 m) (bodyAt 4 sent))
+
+-- "one set, its number, protocols, order and each transform as offered, else 15; identities equal those sent, else 18"
+unfoldable pub takenCode : ℕ → List ℕ → List ℕ → ℕ
+takenCode found sent m =
+    if not (eqb (setCount (bodyAt 1 m)) 1 && setTaken (repliedSet m) (offeredSet sent m)) then 15
+    else if not (identitiesSame found sent m) then 18
+    else 0
+
+-- ---- the agreed values
+
+-- the SPIs of a set, and the transforms of a reply
+unfoldable pub spisOf : List ℕ → Spis
+spisOf s =
+    if eqb (proposalCount s) 1 then Alone (numberAt 4 (proposal 0 s) 8)
+    else Both (numberAt 4 (proposal 0 s) 8) (numberAt 4 (proposal 1 s) 8)
+
+unfoldable pub transformsIn : List ℕ → Transforms
+transformsIn s =
+    if eqb (proposalCount s) 1 then One (transformNumber (transform 0 (proposal 0 s)))
+    else Two (transformNumber (transform 0 (proposal 0 s))) (transformNumber (transform 0 (proposal 1 s)))
+
+-- the own SPI for a protocol, and those for a set
+unfoldable pub spiFor : ℕ → ℕ → ℕ → ℕ
+spiFor ah esp protocol = if eqb protocol 2 then ah else esp
+
+unfoldable pub ownSpis : ℕ → ℕ → List ℕ → Spis
+ownSpis ah esp s =
+    if eqb (proposalCount s) 1 then Alone (spiFor ah esp (protocol (proposal 0 s)))
+    else Both (spiFor ah esp (protocol (proposal 0 s))) (spiFor ah esp (protocol (proposal 1 s)))
+
+-- at the initiator, of the message sent and message 2
+unfoldable pub agreedTwo : List ℕ → List ℕ → Agreed
+agreedTwo sent m = record {
+  set = proposalNumber (proposal 0 (repliedSet m));
+  transforms = transformsIn (repliedSet m);
+  initiator = spisOf (offeredSet sent m);
+  responder = spisOf (repliedSet m);
+}
+
+-- ---- the nonce
+
+-- "hand back the nonce body as it stands in that role's message, or an empty part unless it reads as exchange 32 in either longer shape"
+unfoldable pub nonceRead : List ℕ → Message → List ℕ
+nonceRead m (Refused number) = []
+nonceRead m (Read exchange count) = if eqb exchange 32 && isLonger (shape count m) then bodyAt 2 m else []
+
+unfoldable pub nonceIn : List ℕ → List ℕ
+nonceIn m = nonceRead m (message m)
+
+unfoldable pub nonce : Role → List ℕ → List ℕ → List ℕ
+nonce Initiator one two = nonceIn one
+nonce Responder one two = nonceIn two
