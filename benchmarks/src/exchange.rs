@@ -24,9 +24,7 @@ const ROOM: usize = 2_048;
 /// The kept buffers and the output of the initiator, then the responder's.
 type Buffers = [[u8; ROOM]; 6];
 
-type Slice<'a> = &'a [u8];
-
-/// The initiator's book and the responder's, and two identity bodies.
+/// The initiator's book and the responder's, and the body of both identities.
 struct Given {
     books: [Vec<u8>; 2],
     identity: Vec<u8>,
@@ -82,7 +80,7 @@ fn compare(name: &str, seconds: [&[u32]; 2]) -> f64 {
     let identity = [&[4, 0, 0, 0][..], &[192, 0, 2, 0], &[255, 255, 255, 0]].concat();
     let given = &Given { books: seconds.map(samples::lines), identity };
     let length = agreed(name, given);
-    let [core, second] = timing::medians([&|| cores(given), &|| seconds_own(given)], EXCHANGES_A_ROUND);
+    let [core, second] = timing::medians([&|| core_round(given), &|| second_round(given)], EXCHANGES_A_ROUND);
     let ratio = core / second;
     println!("{name} (message 1 of {length} bytes): core {core:.0}, second {second:.0}, ratio {ratio:.2}");
     ratio
@@ -103,14 +101,14 @@ fn agreed(name: &str, given: &Given) -> usize {
     one.len()
 }
 
-fn cores(given: &Given) {
+fn core_round(given: &Given) {
     let mut buffers = [[0; ROOM]; 6];
     for _ in 0..EXCHANGES_A_ROUND {
         assert_eq!(black_box(core(black_box(given), &mut buffers)), BOTH_OPEN);
     }
 }
 
-fn seconds_own(given: &Given) {
+fn second_round(given: &Given) {
     for _ in 0..EXCHANGES_A_ROUND {
         assert!(black_box(second(black_box(given))).is_ok());
     }
@@ -118,7 +116,7 @@ fn seconds_own(given: &Given) {
 
 fn core(given: &Given, buffers: &mut Buffers) -> u32 {
     let Given { books: [ibook, rbook], identity } = given;
-    let [inonce, rnonce]: [Slice; 2] = [&NONCES[0], &NONCES[1]];
+    let [inonce, rnonce] = &NONCES;
     let [isent, igot, ioutput, rsent, rgot, routput] = buffers;
     // SAFETY: these are those of slices that outlive the call, no two of the lent ones overlap, and the core asks no more.
     unsafe {
