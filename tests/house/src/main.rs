@@ -1,6 +1,6 @@
 //! What the house keeps, checked from the sources: every public function has a contract, a row in docs/CONTRACTS.md and a theorem that
 //! it has one answer; every must-fail edit is in that page; no axiom is declared; the pages name only files that exist; each sample
-//! answers as its page says. `house ROOT BENCH VERDICT`; the last line is `N passed, M failed`.
+//! answers as its page says, and README.md shows what it does. `house ROOT BENCH VERDICT`; the last line is `N passed, M failed`.
 
 mod sources;
 
@@ -16,6 +16,7 @@ const PAGES: &[&str] = &[
     "docs/ARCHITECTURE.md",
     "docs/CONTRACTS.md",
     "docs/DECISIONS.md",
+    "docs/NUMBERS.md",
     "tests/README.md",
     "samples/README.md",
     "benchmarks/README.md",
@@ -53,6 +54,7 @@ fn main() -> ExitCode {
     named_files(root, &mut tally);
     scripts(root, bench, &mut tally);
     verdicts(root, verdict, &mut tally);
+    shown(root, &mut tally);
     println!("{} passed, {} failed", tally.passed, tally.failed);
     ExitCode::from(u8::from(tally.failed > 0))
 }
@@ -135,6 +137,22 @@ fn verdicts(root: &Path, verdict: &str, tally: &mut Tally) {
         let mut input = fs::read(&book).unwrap_or_default();
         input.extend(fs::read(book.with_extension("message")).unwrap_or_default());
         answers(verdict, &input, &book.with_extension("verdict"), tally);
+    }
+}
+
+/// A run of ./verdict in README.md is one on a sample, and shows what that sample's page says.
+fn shown(root: &Path, tally: &mut Tally) {
+    let readme = text(&root.join("README.md"));
+    let runs: Vec<&str> = readme.split("\n$ ./verdict ").skip(1).collect();
+    tally.fact(!runs.is_empty(), || "README.md shows no run".into());
+    for run in runs {
+        let (call, rest) = run.split_once('\n').unwrap_or_default();
+        let printed = rest.split("```").next().unwrap_or("");
+        let name = call.split('.').next().unwrap_or("");
+        let same = call == format!("{name}.book {name}.message");
+        tally.fact(same && printed == text(&root.join(name).with_extension("verdict")), || {
+            format!("README.md does not show what ./verdict {call} prints")
+        });
     }
 }
 
