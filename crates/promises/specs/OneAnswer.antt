@@ -177,7 +177,8 @@ use Rattle.exports.proofs.tallowbrim_choose.Reads as exports-tallowbrim-choose-
 use Rattle.exports.proofs.tallowbrim_packet.Kinds as exports-tallowbrim-packet-kinds
 use Rattle.exports.proofs.tallowbrim_packet.Reads as exports-tallowbrim-packet-reads
 use Rattle.exports.proofs.tallowbrim_step as exports-tallowbrim-step-contract
-use Rattle.exports.specs.Exports.{judgedPacked, Exchanged}
+use Rattle.exports.specs.Exports.{judgedPacked}
+use Rattle.exportsquick.specs.Exchanges.{Exchanged}
 use Rattle.packets.proofs.known.Kinds as packets-known-kinds
 use Rattle.packets.proofs.known.Reads as packets-known-reads
 use Rattle.packets.proofs.read.Kinds as packets-read-kinds
@@ -188,8 +189,8 @@ use Rattle.receive.proofs.step.Kinds as receive-step-kinds
 use Rattle.receive.proofs.step.Reads as receive-step-reads
 use Rattle.receive.proofs.loss_line.Kinds as receive-loss-line-kinds
 use Rattle.receive.proofs.loss_line.Reads as receive-loss-line-reads
-use Rattle.exports.proofs.tallowbrim_exchange.Kinds as exports-tallowbrim-exchange-kinds
-use Rattle.exports.proofs.tallowbrim_exchange.Reads as exports-tallowbrim-exchange-reads
+use Rattle.exportsquick.proofs.tallowbrim_exchange.Kinds as exportsquick-tallowbrim-exchange-kinds
+use Rattle.exportsquick.proofs.tallowbrim_exchange.Reads as exportsquick-tallowbrim-exchange-reads
 use Rattle.sequence.proofs.table.add.Kinds as sequence-add-kinds
 use Rattle.sequence.proofs.table.add.Reads as sequence-add-reads
 use Rattle.sequence.proofs.table.remove.Kinds as sequence-remove-kinds
@@ -509,8 +510,8 @@ receive-step-lent before number whole x y p q = p ∙ sym q
 pub exports-tallowbrim-packet : OneAnswer 2 exports-tallowbrim-packet-kinds.ps exports-tallowbrim-packet-kinds.r {A = ℕ × List ℕ} (λ κs x s. (x, now (s .0))) exports-tallowbrim-packet-reads.Post
 exports-tallowbrim-packet κs arguments x y s t p q = sym p ∙ q
 
-pub exports-tallowbrim-exchange : OneAnswer 12 exports-tallowbrim-exchange-kinds.ps exports-tallowbrim-exchange-kinds.r {A = Exchanged} (λ κs x s. record { states = x; isent = now (s .1 .1 .1 .1 .1 .1 .1 .1 .1 .1 .1 .0); igot = now (s .1 .1 .1 .1 .1 .1 .1 .1 .1 .1 .1 .1 .0); ioutput = now (s .1 .1 .1 .1 .1 .1 .1 .1 .1 .1 .1 .1 .1 .0); rsent = now (s .1 .1 .1 .1 .1 .1 .1 .1 .1 .1 .1 .1 .1 .1 .0); rgot = now (s .1 .1 .1 .1 .1 .1 .1 .1 .1 .1 .1 .1 .1 .1 .1 .0); routput = now (s .1 .1 .1 .1 .1 .1 .1 .1 .1 .1 .1 .1 .1 .1 .1 .1 .0) }) exports-tallowbrim-exchange-reads.Post
-exports-tallowbrim-exchange κs arguments x y s t p q = sym p ∙ q
+pub exportsquick-tallowbrim-exchange : OneAnswer 12 exportsquick-tallowbrim-exchange-kinds.ps exportsquick-tallowbrim-exchange-kinds.r {A = Exchanged} (λ κs x s. record { states = x; isent = now (s .1 .1 .1 .1 .1 .1 .1 .1 .1 .1 .1 .0); igot = now (s .1 .1 .1 .1 .1 .1 .1 .1 .1 .1 .1 .1 .0); ioutput = now (s .1 .1 .1 .1 .1 .1 .1 .1 .1 .1 .1 .1 .1 .0); rsent = now (s .1 .1 .1 .1 .1 .1 .1 .1 .1 .1 .1 .1 .1 .1 .0); rgot = now (s .1 .1 .1 .1 .1 .1 .1 .1 .1 .1 .1 .1 .1 .1 .1 .0); routput = now (s .1 .1 .1 .1 .1 .1 .1 .1 .1 .1 .1 .1 .1 .1 .1 .1 .0) }) exportsquick-tallowbrim-exchange-reads.Post
+exportsquick-tallowbrim-exchange κs arguments x y s t p q = sym p ∙ q
 
 -- so does the lent record's call from another language
 abbrev pub LentOutside : Receive → ℕ → Bool → Receive → ℕ → Type 0

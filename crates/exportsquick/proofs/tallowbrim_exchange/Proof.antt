@@ -7,9 +7,9 @@ use Rattle.quick.specs.declared.End.{End}
 use Rattle.quick.specs.declared.Made.{Made}
 use Rattle.quick.specs.declared.Stepped.{Stepped}
 use Rattle.quick.specs.Ends.{begun}
-use Rattle.exports.specs.Exports.{stateNumber, given, exchangeLeaves, next, thirdGiven, secondGiven, firstGiven, exchanged}
-use Rattle.exports.proofs.tallowbrim_exchange.Statement.{statement}
-use Rattle.exports.proofs.tallowbrim_exchange.Tie as tie
+use Rattle.exportsquick.specs.Exchanges.{stateNumber, given, exchangeLeaves, next, thirdGiven, secondGiven, firstGiven, exchanged}
+use Rattle.exportsquick.proofs.tallowbrim_exchange.Statement.{statement}
+use Rattle.exportsquick.proofs.tallowbrim_exchange.Tie as tie
 
 all-given : (mi mr wi wr : Made) (id : ℕ) (first second a b c x y z : List ℕ) → wi ≡ mi → wr ≡ mr → (s1 s2 s3 s4 : Stepped) (a1 c1 x2 y2 z2 a3 b3 c3 x4 y4 z4 : List ℕ) (i r : ℕ) →
     begun (wi .end) id first second a b c ≡ record { step = s1; sent = a1; got = b; output = c1 } →

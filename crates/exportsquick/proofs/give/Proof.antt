@@ -7,9 +7,9 @@ use borrow.Author.Needs.{needs}
 use Rattle.quick.specs.declared.End.{End}
 use Rattle.quick.specs.declared.StepAnswer.{StepAnswer}
 use Rattle.quick.specs.Ends.{After, delivered}
-use Rattle.exports.specs.Exports.{sendSize, given}
-use Rattle.exports.proofs.give.Statement.{statement}
-use Rattle.exports.proofs.give.Tie as tie
+use Rattle.exportsquick.specs.Exchanges.{sendSize, given}
+use Rattle.exportsquick.proofs.give.Statement.{statement}
+use Rattle.exportsquick.proofs.give.Tie as tie
 
 step-given : (end : End) (said : StepAnswer) (from sent got output m : List ℕ) (n : ℕ) (a : After) → n ≡ sendSize said → m ≡ take n from → delivered end true m sent got output ≡ a → given end said from sent got output ≡ a
 unfolding given

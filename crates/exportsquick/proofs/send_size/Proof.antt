@@ -4,9 +4,9 @@ use mathlib.Core.Path.{_≡_}
 use borrow.Author.Needs.{needs}
 use Rattle.quick.specs.declared.StepAnswer.{StepAnswer}
 use Rattle.quick.specs.declared.StepAnswer.the-variants.{Send, Nothing, Refused}
-use Rattle.exports.specs.Exports.{sendSize}
-use Rattle.exports.proofs.send_size.Statement.{statement}
-use Rattle.exports.proofs.send_size.Tie as tie
+use Rattle.exportsquick.specs.Exchanges.{sendSize}
+use Rattle.exportsquick.proofs.send_size.Statement.{statement}
+use Rattle.exportsquick.proofs.send_size.Tie as tie
 
 module _ (answer : StepAnswer) where
   size-send : (size : ℕ) → answer ≡ Send size → size ≡ sendSize answer

@@ -3,9 +3,9 @@ use mathlib.Core.Path.{_≡_}
 use borrow.Author.Needs.{needs}
 use Rattle.checks.specs.declared.State.{State}
 use Rattle.checks.specs.declared.State.the-variants.{Idle, Sent, Half, Open, GivenUp}
-use Rattle.exports.specs.Exports.{stateNumber}
-use Rattle.exports.proofs.state_number.Statement.{statement}
-use Rattle.exports.proofs.state_number.Tie as tie
+use Rattle.exportsquick.specs.Exchanges.{stateNumber}
+use Rattle.exportsquick.proofs.state_number.Statement.{statement}
+use Rattle.exportsquick.proofs.state_number.Tie as tie
 
 module _ (state : State) where
   number-idle : state ≡ Idle → 0 ≡ stateNumber state
