@@ -41,16 +41,29 @@ const INPUT_OF_A_RUN: usize = 1 << 20;
 /// Runs all cases and compares every answer.
 pub fn compare(programs: &Programs, cases: &[Case], in_order: bool, agreed: &mut Agreed) -> Comparison {
     let mut comparison = Comparison::default();
-    let is_together = |(_, case): &(usize, &Case)| case.programs == ProgramsOf::Lines;
-    let (together, alone): (Vec<_>, Vec<_>) = cases.iter().enumerate().partition(is_together);
-    let most_input = if in_order { usize::MAX } else { INPUT_OF_A_RUN };
-    for run in runs(&together, most_input).into_iter().chain(alone.chunks(1)) {
+    for run in runs_of(cases, in_order) {
         match run[0].1.programs {
-            ProgramsOf::Verdicts { piece } => compare_verdicts(programs, run[0], piece, &mut comparison, agreed),
-            _ => compare_run(programs, run, &mut comparison, agreed),
+            ProgramsOf::Verdicts { .. } => compare_verdicts(programs, run[0], &mut comparison, agreed),
+            _ => compare_run(programs, &run, &mut comparison, agreed),
         }
     }
     comparison
+}
+
+/// The cases of each run of the programs, with their numbers.
+pub fn runs_of(cases: &[Case], in_order: bool) -> Vec<Vec<(usize, &Case)>> {
+    let is_together = |(_, case): &(usize, &Case)| case.programs == ProgramsOf::Lines;
+    let (together, alone): (Vec<_>, Vec<_>) = cases.iter().enumerate().partition(is_together);
+    let most_input = if in_order { usize::MAX } else { INPUT_OF_A_RUN };
+    runs(&together, most_input).into_iter().chain(alone.chunks(1)).map(<[_]>::to_vec).collect()
+}
+
+/// What the programs of a run get to read, in the pieces in which it comes.
+pub fn input_of(run: &[(usize, &Case)]) -> Vec<Vec<u8>> {
+    match run[0].1.programs {
+        ProgramsOf::Verdicts { piece } => run[0].1.input.chunks(piece).map(<[u8]>::to_vec).collect(),
+        _ => vec![run.iter().map(|(_, case)| case.input.as_slice()).collect::<Vec<_>>().concat()],
+    }
 }
 
 fn runs<'a, 'b>(cases: &'b [(usize, &'a Case)], most_input: usize) -> Vec<&'b [(usize, &'a Case)]> {
@@ -67,8 +80,7 @@ fn runs<'a, 'b>(cases: &'b [(usize, &'a Case)], most_input: usize) -> Vec<&'b [(
 }
 
 fn compare_run(programs: &Programs, cases: &[(usize, &Case)], comparison: &mut Comparison, agreed: &mut Agreed) {
-    let pieces: Vec<_> = cases.iter().map(|(_, case)| case.input.as_slice()).collect();
-    let [bench, second] = programs.run(pieces.concat());
+    let [bench, second] = programs.run(input_of(cases));
     let owed = cases.iter().map(|(_, case)| case.answers.len()).sum();
     for (name, run) in [("bench", &bench), ("second", &second)] {
         if let Some(failure) = failure(run, owed) {
@@ -80,15 +92,8 @@ fn compare_run(programs: &Programs, cases: &[(usize, &Case)], comparison: &mut C
 }
 
 /// The whole output is one answer.
-fn compare_verdicts(
-    programs: &Programs,
-    case: (usize, &Case),
-    piece: usize,
-    comparison: &mut Comparison,
-    agreed: &mut Agreed,
-) {
-    let pieces = case.1.input.chunks(piece).map(<[u8]>::to_vec).collect();
-    let [verdict, second] = programs.run_verdicts(pieces);
+fn compare_verdicts(programs: &Programs, case: (usize, &Case), comparison: &mut Comparison, agreed: &mut Agreed) {
+    let [verdict, second] = programs.run_verdicts(input_of(&[case]));
     for (name, run) in [("verdict", &verdict), ("second verdict", &second)] {
         let failure = run.failure.as_ref().map(|failure| format!("{name}, in case {}: {failure}", case.0));
         comparison.failures.extend(failure);

@@ -1,31 +1,14 @@
 //! Feeds the same lines to `bench` and to the second program, and the same books and messages to `verdict` and to the
 //! second program's own, and compares every answer; see ../README.md.
 
-mod cases;
-mod checks;
-mod compare;
-mod damage;
-mod exchange;
-mod groups;
-mod identity;
-mod layout;
-mod message;
-mod offer;
-mod policy;
-mod programs;
-mod random;
-mod sequence;
-mod tree;
-mod wild;
-
-use cases::{Case, LINE_END_SHOWN};
-use compare::{compare, Comparison, Difference};
-use groups::Group;
-use programs::Programs;
+use differential::cases::{Case, LINE_END_SHOWN};
+use differential::compare::{compare, Comparison, Difference};
+use differential::groups::{self, Group};
+use differential::programs::Programs;
+use differential::DEFAULT_SEED;
 use std::collections::BTreeMap;
 use std::time::Instant;
 
-const DEFAULT_SEED: u64 = 36_968;
 /// So many differences of a group are shown; one mistake can bring thousands.
 const DIFFERENCES_SHOWN: usize = 5;
 /// A longer line is shortened in its middle, down to so many characters at each end.

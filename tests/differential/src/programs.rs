@@ -34,11 +34,11 @@ impl Programs {
     }
 
     /// Both run at once; `bench` stands first.
-    pub fn run(&self, input: Vec<u8>) -> [Run; 2] {
-        self.run_both(Command::new(&self.bench), Command::new(&self.second), vec![input])
+    pub fn run(&self, pieces: Vec<Vec<u8>>) -> [Run; 2] {
+        self.run_both(Command::new(&self.bench), Command::new(&self.second), pieces)
     }
 
-    /// Both run at once; `verdict` stands first. The pieces of input come one after the other.
+    /// Both run at once; `verdict` stands first.
     pub fn run_verdicts(&self, pieces: Vec<Vec<u8>>) -> [Run; 2] {
         let mut second = Command::new(&self.second);
         second.arg("verdict");
@@ -59,7 +59,8 @@ impl Programs {
     }
 }
 
-fn run(mut program: Command, pieces: &Arc<Vec<Vec<u8>>>, time: Duration) -> Run {
+/// The pieces of input come one after the other.
+pub fn run(mut program: Command, pieces: &Arc<Vec<Vec<u8>>>, time: Duration) -> Run {
     let failed = |output, failure| Run { output, failure: Some(failure) };
     let started = program.stdin(Stdio::piped()).stdout(Stdio::piped()).spawn();
     let mut child = match started {

@@ -1,0 +1,21 @@
+//! The makers of cases and the comparison. It is a library so that the same cases can be put to other programs.
+
+pub mod cases;
+mod checks;
+pub mod compare;
+mod damage;
+mod exchange;
+pub mod groups;
+mod identity;
+mod layout;
+mod message;
+mod offer;
+mod policy;
+pub mod programs;
+mod random;
+mod sequence;
+mod tree;
+mod wild;
+
+/// The seed of the ordinary run.
+pub const DEFAULT_SEED: u64 = 36_968;
