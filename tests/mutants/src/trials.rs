@@ -1,0 +1,67 @@
+//! The runs of the ordinary differential run, each with the answers that the core gave to it. A mutant is noticed by the
+//! first run to which it gives other answers, or in which it ends badly or not at all.
+
+use differential::cases::ProgramsOf;
+use differential::compare::{input_of, runs_of};
+use differential::programs::{run, Run};
+use differential::{groups, DEFAULT_SEED};
+use std::hash::{DefaultHasher, Hasher};
+use std::path::Path;
+use std::process::{Command, Stdio};
+use std::sync::Arc;
+use std::time::Duration;
+
+/// A run of the core or of an unchanged second program takes a second or two.
+const PATIENCE: Duration = Duration::from_secs(40);
+/// In KiB. A mutant that never stops keeping something is stopped by this.
+const MOST_MEMORY: &str = "1000000";
+
+pub struct Trial {
+    pub group: &'static str,
+    pub of_verdicts: bool,
+    input: Arc<Vec<Vec<u8>>>,
+    answers: Digest,
+}
+
+/// Stands for the whole output of a run: its length and a hash.
+#[derive(PartialEq)]
+struct Digest(usize, u64);
+
+fn digest(output: &[u8]) -> Digest {
+    let mut hasher = DefaultHasher::new();
+    hasher.write(output);
+    Digest(output.len(), hasher.finish())
+}
+
+/// All runs with the seed of the ordinary run.
+pub fn all(bench: &Path, verdict: &Path) -> Result<Vec<Trial>, String> {
+    let mut trials = Vec::new();
+    for group in groups::ALL {
+        let cases = group.cases(DEFAULT_SEED);
+        for cases in runs_of(&cases, group.in_order) {
+            let of_verdicts = matches!(cases[0].1.programs, ProgramsOf::Verdicts { .. });
+            let input = Arc::new(input_of(&cases));
+            let core = Command::new(if of_verdicts { verdict } else { bench });
+            let Run { output, failure } = run(core, &input, PATIENCE);
+            if let Some(failure) = failure {
+                return Err(format!("{}: the core failed: {failure}", group.name));
+            }
+            trials.push(Trial { group: group.name, of_verdicts, input, answers: digest(&output) });
+        }
+    }
+    Ok(trials)
+}
+
+impl Trial {
+    /// How this run notices that the program is not the core's equal, if it does.
+    pub fn notices(&self, program: &Path) -> Option<String> {
+        let mut limited = Command::new("sh");
+        limited.args(["-c", "ulimit -v \"$0\"; exec \"$@\"", MOST_MEMORY]).arg(program).stderr(Stdio::null());
+        if self.of_verdicts {
+            limited.arg("verdict");
+        }
+        let Run { output, failure } = run(limited, &self.input, PATIENCE);
+        let unlike = || (digest(&output) != self.answers).then(|| "other answers".to_string());
+        failure.or_else(unlike)
+    }
+}
