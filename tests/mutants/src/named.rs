@@ -10,7 +10,11 @@ const NAMED: &[(&str, &str, &str)] = &[
     ("identity.rs", "10 => der::is_one_element(data)", "10 => der::is_name(data)"),
     ("lines.rs", ".filter(|&size| size <= LARGEST_ROOM)", ""),
     ("message.rs", "bytes.iter().all(", "bytes.iter().any("),
-    ("message.rs", "payloads.iter().any(|before| before.kind == SA)", "payloads.last().is_some_and(|before| before.kind == SA)"),
+    (
+        "message.rs",
+        "payloads.iter().any(|before| before.kind == SA)",
+        "payloads.last().is_some_and(|before| before.kind == SA)",
+    ),
     ("offer.rs", "before.contains(&this)", "(before.last() == Some(&this))"),
     ("offer.rs", "kinds.contains(&kind)", "(kinds.last() == Some(&kind))"),
     ("offer.rs", "more_proposals: false", "more_proposals: true"),
@@ -19,14 +23,20 @@ const NAMED: &[(&str, &str, &str)] = &[
     ("offer.rs", "protocols: &[AH, ESP]", "protocols: &[ESP]"),
     ("offer.rs", "protocols: &[AH, ESP]", "protocols: &[ISAKMP, AH, ESP]"),
     ("offer.rs", "protocols: &[ISAKMP]", "protocols: &[ISAKMP, AH]"),
-    ("policy.rs", ".find(|transform| line.suits(protocol, transform))", ".filter(|transform| line.suits(protocol, transform)).last()"),
+    (
+        "policy.rs",
+        ".find(|transform| line.suits(protocol, transform))",
+        ".filter(|transform| line.suits(protocol, transform)).last()",
+    ),
     ("policy.rs", "MODES.contains(&bytes[1])", "(0..=5).contains(&bytes[1])"),
     ("policy.rs", "MAIN_SECONDS.contains(&seconds).then_some(Line::Main { seconds })", "Some(Line::Main { seconds })"),
     ("policy.rs", ".chunk_by(|one, next| one.number == next.number)", ".chunks(1)"),
     (
         "policy.rs",
-        "    for set in proposals.chunk_by(|one, next| one.number == next.number) {\n        for (line, place) in lines.iter().zip(1..) {",
-        "    for (line, place) in lines.iter().zip(1..) {\n        for set in proposals.chunk_by(|one, next| one.number == next.number) {",
+        "    for set in proposals.chunk_by(|one, next| one.number == next.number) {\n\
+         \x20       for (line, place) in lines.iter().zip(1..) {",
+        "    for (line, place) in lines.iter().zip(1..) {\n\
+         \x20       for set in proposals.chunk_by(|one, next| one.number == next.number) {",
     ),
     ("port4500.rs", "[u8; 4] = [0; 4]", "[u8; 3] = [0; 3]"),
     ("port4500.rs", "[u8; 4] = [0; 4]", "[u8; 5] = [0; 5]"),
@@ -45,24 +55,44 @@ const NAMED: &[(&str, &str, &str)] = &[
     ("quick.rs", "self.state = State::Half;", "self.state = State::Open;"),
     ("quick.rs", "self.state = State::Sent;", "self.state = State::Open;"),
     ("quick.rs", "self.state = State::GivenUp;", "self.state = State::GivenUp;\n                self.agreed = None;"),
-    ("quick.rs", "(Role::Responder, State::Open, Shape::HashAlone) => Ok(Step::Nothing)", "(Role::Responder, State::Open, Shape::HashAlone) => Ok(self.send_again())"),
-    ("quick.rs", "State::Open | State::GivenUp => Ok(Step::Nothing)", "State::Open | State::GivenUp => Ok(self.send_again())"),
+    (
+        "quick.rs",
+        "(Role::Responder, State::Open, Shape::HashAlone) => Ok(Step::Nothing)",
+        "(Role::Responder, State::Open, Shape::HashAlone) => Ok(self.send_again())",
+    ),
+    (
+        "quick.rs",
+        "State::Open | State::GivenUp => Ok(Step::Nothing)",
+        "State::Open | State::GivenUp => Ok(self.send_again())",
+    ),
     ("quick_messages.rs", "without_hash(one) == without_hash(other)", "one == other"),
     ("quick_messages.rs", ".filter(|reading| reading.exchange == QUICK_MODE)", ""),
     ("quick_messages.rs", "(proposal.number, proposal.protocol, transforms)", "(proposal.number, transforms)"),
     ("quick_messages.rs", "(proposal.number, proposal.protocol, transforms)", "(proposal.number, proposal.protocol)"),
     ("quick_messages.rs", "(proposal.number, proposal.protocol, transforms)", "(proposal.protocol, transforms)"),
     ("quick_messages.rs", ".filter(|proposal| proposal.number == set)", ""),
-    ("reply.rs", "&[NONE_NEXT], &taken.transform.bytes[1..]", "&taken.transform.bytes[..1], &taken.transform.bytes[1..]"),
+    (
+        "reply.rs",
+        "&[NONE_NEXT], &taken.transform.bytes[1..]",
+        "&taken.transform.bytes[..1], &taken.transform.bytes[1..]",
+    ),
     (
         "sequence.rs",
         "refuse_if(!integrity, refusal::INTEGRITY)?;\n        self.accepted.insert(number);",
         "self.accepted.insert(number);\n        refuse_if(!integrity, refusal::INTEGRITY)?;",
     ),
-    ("sequence.rs", ".ok_or(refusal::SPI)\n    }\n\n    pub fn packet", ".or(Some(())).ok_or(refusal::SPI)\n    }\n\n    pub fn packet"),
+    (
+        "sequence.rs",
+        ".ok_or(refusal::SPI)\n    }\n\n    pub fn packet",
+        ".or(Some(())).ok_or(refusal::SPI)\n    }\n\n    pub fn packet",
+    ),
     ("sequence.rs", "self.lives.insert(key, Life::default());", "self.lives.entry(key).or_default();"),
     ("sequence.rs", "life.sent.checked_add(1)", "Some(life.sent.wrapping_add(1))"),
-    ("verdict.rs", "input.take(COUNTED).read_to_end(&mut bytes)", "{ let mut input = input; input.read_to_end(&mut bytes) }"),
+    (
+        "verdict.rs",
+        "input.take(COUNTED).read_to_end(&mut bytes)",
+        "{ let mut input = input; input.read_to_end(&mut bytes) }",
+    ),
 ];
 
 /// All of them for a source; a text that is not there is an error, as then nothing is tried.
