@@ -12,8 +12,9 @@ use Rattle.wire.proofs.Laws.{number-join, number-past}
 use Rattle.message.specs.Message.{message}
 use Rattle.message.specs.declared.Message.{Message}
 use Rattle.message.specs.declared.Message.the-variants.{Refused, Read}
-use Rattle.sets.specs.Parts.{setCount, proposal, proposalCount, protocol, transform, transformNumber}
-use Rattle.sets.specs.declared.TransformNumber.{TransformNumber}
+use Rattle.fields.specs.Fields.{protocol, transformNumber}
+use Rattle.sets.specs.Parts.{setCount, proposal, proposalCount, transform}
+use Rattle.fields.specs.declared.TransformNumber.{TransformNumber}
 use Rattle.policy.specs.Choice.{bodyAt}
 use Rattle.policy.specs.declared.Transforms.the-variants.{One, Two}
 use Rattle.checks.specs.Checks.{kindIs, shape, isLonger, cookiesWrong, isIdle, isInitiator, quickCode, readCode, setTaken, repliedSet, offeredSet, identitiesSame, takenCode, spisOf, transformsIn, spiFor, ownSpis, nonceRead, nonceIn}

@@ -10,7 +10,8 @@ use Rattle.message.specs.Header.{flagsOf}
 use Rattle.message.specs.Message.{message, payloadAt}
 use Rattle.message.specs.declared.Message.{Message}
 use Rattle.message.specs.declared.Message.the-variants.{Refused, Read}
-use Rattle.sets.specs.Parts.{set, setCount, setNumbered, proposal, proposalCount, proposalNumber, protocol, transform, transformCount, transformNumber}
+use Rattle.fields.specs.Fields.{proposalNumber, protocol, transformCount, transformNumber}
+use Rattle.sets.specs.Parts.{set, setCount, setNumbered, proposal, proposalCount, transform}
 use Rattle.policy.specs.Choice.{bodyAt}
 use Rattle.policy.specs.declared.Transforms.{Transforms}
 use Rattle.policy.specs.declared.Transforms.the-variants.{One, Two}

@@ -1,19 +1,19 @@
 // What the ends ask of a message that is delivered. Every function takes any bytes.
+use fields::ProposalNumber;
+use fields::proposal_number;
+use fields::protocol;
+use fields::transform_count;
+use fields::transform_number;
 use message::Message;
 use message::payload_at;
 use policy::Transforms;
 use policy::choose::body_at;
-use sets::ProposalNumber;
 use sets::proposal;
 use sets::proposal_count;
-use sets::proposal_number;
-use sets::protocol;
 use sets::set;
 use sets::set_count;
 use sets::set_numbered;
 use sets::transform;
-use sets::transform_count;
-use sets::transform_number;
 use wire::after;
 use wire::be32;
 use wire::byte;

@@ -11,7 +11,7 @@ use borrow.Author.Tests.{eq-eqb}
 use Rattle.wire.specs.Wire.{numberAt, paste}
 use Rattle.wire.proofs.Tests.{never, clash, both, by-test}
 use Rattle.sets.specs.Parts.{setNumbered}
-use Rattle.sets.specs.declared.ProposalNumber.{ProposalNumber}
+use Rattle.fields.specs.declared.ProposalNumber.{ProposalNumber}
 use Rattle.policy.specs.Choice.{bodyAt, chooseFrom}
 use Rattle.reply.specs.Reply.{setReply}
 use Rattle.policy.specs.declared.LineNumber.{LineNumber}

@@ -14,7 +14,7 @@ use Rattle.wire.proofs.Tests.{never, clash, both, neither, by-test, passed}
 use Rattle.wire.proofs.Laws.{paste-inside}
 use Rattle.identity.specs.Identity.{identity}
 use Rattle.sets.specs.Parts.{setNumbered}
-use Rattle.sets.specs.declared.ProposalNumber.{ProposalNumber}
+use Rattle.fields.specs.declared.ProposalNumber.{ProposalNumber}
 use Rattle.policy.specs.Choice.{bodyAt, chooseFrom}
 use Rattle.policy.specs.declared.LineNumber.{LineNumber}
 use Rattle.policy.specs.declared.Transforms.{Transforms}

@@ -9,7 +9,7 @@ use Rattle.wire.specs.Wire.{paste}
 use Rattle.wire.proofs.Tests.{never, clash}
 use Rattle.wire.proofs.Laws.{length-paste}
 use Rattle.sets.specs.Parts.{setNumbered}
-use Rattle.sets.specs.declared.ProposalNumber.{ProposalNumber}
+use Rattle.fields.specs.declared.ProposalNumber.{ProposalNumber}
 use Rattle.policy.specs.Choice.{bodyAt, chooseFrom}
 use Rattle.policy.specs.declared.LineNumber.{LineNumber}
 use Rattle.policy.specs.declared.Transforms.{Transforms}

@@ -1,4 +1,5 @@
 // The functions that another language calls: thin, on bytes and numbers; an answer of several parts is packed in one number.
+use fields::ProposalNumber;
 use message::Message;
 use policy::Choice;
 use policy::LineNumber;
@@ -7,7 +8,6 @@ use receive::Receive;
 use receive::Verdict;
 use receive::step_in_place;
 use sequence::table::Table;
-use sets::ProposalNumber;
 ghost use mathlib.Core.Path.{_≡_};
 ghost use Rattle.message.specs.Message.{message};
 ghost use Rattle.policy.specs.Choice.{choice};

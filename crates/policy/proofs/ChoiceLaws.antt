@@ -11,8 +11,9 @@ use Rattle.wire.specs.Wire.{numberAt}
 use Rattle.wire.proofs.Tests.{never, by-test}
 use Rattle.wire.proofs.Laws.{number-drop}
 use Rattle.offer.specs.Proposals.{offerCode}
-use Rattle.sets.specs.Parts.{set, setCount, setNumbered, proposal, proposalNumber}
-use Rattle.sets.specs.declared.ProposalNumber.{ProposalNumber}
+use Rattle.fields.specs.Fields.{proposalNumber}
+use Rattle.sets.specs.Parts.{set, setCount, setNumbered, proposal}
+use Rattle.fields.specs.declared.ProposalNumber.{ProposalNumber}
 use Rattle.sets.proofs.Places.{LawfulSet, set-lawful, set-by-number}
 use Rattle.message.specs.Header.{exchangeOf, firstPayload}
 use Rattle.message.specs.Payloads.{bodyOf}

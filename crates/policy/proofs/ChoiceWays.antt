@@ -14,7 +14,7 @@ use Rattle.message.specs.declared.Message.{Message}
 use Rattle.message.specs.declared.Message.the-variants as read
 use Rattle.message.specs.declared.Payload.{Payload}
 use Rattle.sets.specs.Parts.{set, proposal, proposalCount}
-use Rattle.sets.specs.declared.TransformNumber.{TransformNumber}
+use Rattle.fields.specs.declared.TransformNumber.{TransformNumber}
 use Rattle.book.specs.Book.{mainCount, quickCount, bookSize, bookInFront, bookRead}
 use Rattle.suits.specs.Suits.{lowest, setSuits}
 use Rattle.policy.specs.Choice.{lineCount, lineFrom, firstLine, numberOf, transformsOf, chosen, setFrom, chooseFrom, bodyAt, saFrom, messageRefusal, messageChoice, bookChoice, choice}

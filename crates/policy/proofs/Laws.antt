@@ -9,7 +9,8 @@ use lib.Dec.{eqb, leb}
 use borrow.Author.Tests.{eqb-true, eqb-false, eq-eqb, ne-eqb, leb-true, leb-false, le-leb}
 use Rattle.wire.specs.Tests.{if_then_else_}
 use Rattle.wire.proofs.Tests.{never, clash, both, by-test}
-use Rattle.sets.specs.Parts.{set, setCount, proposal, proposalCount, transformCount}
+use Rattle.fields.specs.Fields.{transformCount}
+use Rattle.sets.specs.Parts.{set, setCount, proposal, proposalCount}
 use Rattle.book.specs.Book.{quickProtocols}
 use Rattle.suits.specs.Suits.{transformSuits, lowestFrom, lowest, protocolsAlone, protocolsBoth, protocolsSuit, setSuits}
 use Rattle.policy.specs.Choice.{lineCount, lineFrom, firstLine, chosen, setFrom, chooseFrom}

@@ -14,7 +14,8 @@ use Rattle.attribute.specs.Attributes.{attribute, mustBeFixed, isDuration, attr
 use Rattle.attribute.proofs.Laws.{wantedTimes, apart, allShort, allThere, wanted-length}
 use Rattle.offer.specs.Proposals.{protocolWrong}
 use Rattle.offer.proofs.Laws.{Item, LawfulTransform}
-use Rattle.sets.specs.Parts.{proposal, proposalCount, protocol, transformCount, transform, transformNumbered, transformId, attributesOf}
+use Rattle.fields.specs.Fields.{protocol, transformCount, transformId, attributesOf}
+use Rattle.sets.specs.Parts.{proposal, proposalCount, transform, transformNumbered}
 use Rattle.sets.proofs.Places.{transform-lawful, transform-by-number}
 use Rattle.book.specs.Book.{quickProtocols}
 use Rattle.policy.specs.Choice.{numberOf}

@@ -10,8 +10,9 @@ use Rattle.wire.specs.Answer.{Answer, done, refused}
 use Rattle.message.specs.Message.{message, payloadAt}
 use Rattle.message.specs.declared.Message.{Message}
 use Rattle.message.specs.declared.Message.the-variants as read
-use Rattle.sets.specs.Parts.{set, setCount, proposal, proposalCount, proposalNumber, transform, transformNumber}
-use Rattle.sets.specs.declared.TransformNumber.{TransformNumber}
+use Rattle.fields.specs.Fields.{proposalNumber, transformNumber}
+use Rattle.sets.specs.Parts.{set, setCount, proposal, proposalCount, transform}
+use Rattle.fields.specs.declared.TransformNumber.{TransformNumber}
 use Rattle.book.specs.Book.{mainCount, quickCount, bookRead}
 use Rattle.book.specs.declared.Book.{Book}
 use Rattle.book.specs.declared.Book.the-variants as books

@@ -1,8 +1,8 @@
 // The choice: the first set, the first line that it suits, the lowest transform in each proposal.
 pub mod choose;
 
-use sets::ProposalNumber;
-use sets::TransformNumber;
+use fields::ProposalNumber;
+use fields::TransformNumber;
 
 // Policy lines are counted from 1 among the main lines or among the quick lines.
 pub struct LineNumber(pub u8);

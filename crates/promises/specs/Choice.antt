@@ -15,7 +15,8 @@ use Rattle.wire.specs.Answer.{Answer}
 use Rattle.wire.proofs.Tests.{never, clash, by-test}
 use Rattle.message.specs.Message.{message}
 use Rattle.message.specs.declared.Message.the-variants as read
-use Rattle.sets.specs.Parts.{set, setCount, proposal, proposalCount, transformCount}
+use Rattle.fields.specs.Fields.{transformCount}
+use Rattle.sets.specs.Parts.{set, setCount, proposal, proposalCount}
 use Rattle.book.specs.Book.{bookRead, answer as bookAnswer}
 use Rattle.suits.specs.Suits.{transformSuits, lowest, setSuits}
 use Rattle.policy.specs.Choice.{lineCount, chosen, chooseFrom, saFrom, messageChoice, bookChoice, choice, answer}

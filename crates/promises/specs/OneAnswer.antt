@@ -72,24 +72,24 @@ use Rattle.sets.proofs.proposal.Kinds as sets-proposal-kinds
 use Rattle.sets.proofs.proposal.Reads as sets-proposal-reads
 use Rattle.sets.proofs.proposal_count.Kinds as sets-proposal-count-kinds
 use Rattle.sets.proofs.proposal_count.Reads as sets-proposal-count-reads
-use Rattle.sets.proofs.proposal_number.Kinds as sets-proposal-number-kinds
-use Rattle.sets.proofs.proposal_number.Reads as sets-proposal-number-reads
-use Rattle.sets.proofs.protocol.Kinds as sets-protocol-kinds
-use Rattle.sets.proofs.protocol.Reads as sets-protocol-reads
-use Rattle.sets.proofs.spi.Kinds as sets-spi-kinds
-use Rattle.sets.proofs.spi.Reads as sets-spi-reads
-use Rattle.sets.proofs.transform_count.Kinds as sets-transform-count-kinds
-use Rattle.sets.proofs.transform_count.Reads as sets-transform-count-reads
+use Rattle.fields.proofs.proposal_number.Kinds as fields-proposal-number-kinds
+use Rattle.fields.proofs.proposal_number.Reads as fields-proposal-number-reads
+use Rattle.fields.proofs.protocol.Kinds as fields-protocol-kinds
+use Rattle.fields.proofs.protocol.Reads as fields-protocol-reads
+use Rattle.fields.proofs.spi.Kinds as fields-spi-kinds
+use Rattle.fields.proofs.spi.Reads as fields-spi-reads
+use Rattle.fields.proofs.transform_count.Kinds as fields-transform-count-kinds
+use Rattle.fields.proofs.transform_count.Reads as fields-transform-count-reads
 use Rattle.sets.proofs.transform.Kinds as sets-transform-kinds
 use Rattle.sets.proofs.transform.Reads as sets-transform-reads
 use Rattle.sets.proofs.transform_numbered.Kinds as sets-transform-numbered-kinds
 use Rattle.sets.proofs.transform_numbered.Reads as sets-transform-numbered-reads
-use Rattle.sets.proofs.transform_number.Kinds as sets-transform-number-kinds
-use Rattle.sets.proofs.transform_number.Reads as sets-transform-number-reads
-use Rattle.sets.proofs.transform_id.Kinds as sets-transform-id-kinds
-use Rattle.sets.proofs.transform_id.Reads as sets-transform-id-reads
-use Rattle.sets.proofs.attributes_of.Kinds as sets-attributes-of-kinds
-use Rattle.sets.proofs.attributes_of.Reads as sets-attributes-of-reads
+use Rattle.fields.proofs.transform_number.Kinds as fields-transform-number-kinds
+use Rattle.fields.proofs.transform_number.Reads as fields-transform-number-reads
+use Rattle.fields.proofs.transform_id.Kinds as fields-transform-id-kinds
+use Rattle.fields.proofs.transform_id.Reads as fields-transform-id-reads
+use Rattle.fields.proofs.attributes_of.Kinds as fields-attributes-of-kinds
+use Rattle.fields.proofs.attributes_of.Reads as fields-attributes-of-reads
 use Rattle.offer.proofs.transform_bytes.Kinds as offer-transform-bytes-kinds
 use Rattle.offer.proofs.transform_bytes.Reads as offer-transform-bytes-reads
 use Rattle.offer.proofs.check.Kinds as offer-check-kinds
@@ -303,17 +303,17 @@ sets-proposal κs arguments x y s t p q = p ∙ sym q
 pub sets-proposal-count : OneAnswer 1 sets-proposal-count-kinds.ps sets-proposal-count-kinds.r (λ κs x s. x) sets-proposal-count-reads.Post
 sets-proposal-count κs arguments x y s t p q = p ∙ sym q
 
-pub sets-proposal-number : OneAnswer 1 sets-proposal-number-kinds.ps sets-proposal-number-kinds.r (λ κs x s. x) sets-proposal-number-reads.Post
-sets-proposal-number κs arguments x y s t p q = p ∙ sym q
+pub fields-proposal-number : OneAnswer 1 fields-proposal-number-kinds.ps fields-proposal-number-kinds.r (λ κs x s. x) fields-proposal-number-reads.Post
+fields-proposal-number κs arguments x y s t p q = p ∙ sym q
 
-pub sets-protocol : OneAnswer 1 sets-protocol-kinds.ps sets-protocol-kinds.r (λ κs x s. x) sets-protocol-reads.Post
-sets-protocol κs arguments x y s t p q = p ∙ sym q
+pub fields-protocol : OneAnswer 1 fields-protocol-kinds.ps fields-protocol-kinds.r (λ κs x s. x) fields-protocol-reads.Post
+fields-protocol κs arguments x y s t p q = p ∙ sym q
 
-pub sets-spi : OneAnswer 1 sets-spi-kinds.ps sets-spi-kinds.r (λ κs x s. now x) sets-spi-reads.Post
-sets-spi κs arguments x y s t p q = p ∙ sym q
+pub fields-spi : OneAnswer 1 fields-spi-kinds.ps fields-spi-kinds.r (λ κs x s. now x) fields-spi-reads.Post
+fields-spi κs arguments x y s t p q = p ∙ sym q
 
-pub sets-transform-count : OneAnswer 1 sets-transform-count-kinds.ps sets-transform-count-kinds.r (λ κs x s. x) sets-transform-count-reads.Post
-sets-transform-count κs arguments x y s t p q = p ∙ sym q
+pub fields-transform-count : OneAnswer 1 fields-transform-count-kinds.ps fields-transform-count-kinds.r (λ κs x s. x) fields-transform-count-reads.Post
+fields-transform-count κs arguments x y s t p q = p ∙ sym q
 
 pub sets-transform : OneAnswer 1 sets-transform-kinds.ps sets-transform-kinds.r (λ κs x s. now x) sets-transform-reads.Post
 sets-transform κs arguments x y s t p q = p ∙ sym q
@@ -321,14 +321,14 @@ sets-transform κs arguments x y s t p q = p ∙ sym q
 pub sets-transform-numbered : OneAnswer 1 sets-transform-numbered-kinds.ps sets-transform-numbered-kinds.r (λ κs x s. now x) sets-transform-numbered-reads.Post
 sets-transform-numbered κs arguments x y s t p q = p ∙ sym q
 
-pub sets-transform-number : OneAnswer 1 sets-transform-number-kinds.ps sets-transform-number-kinds.r (λ κs x s. x) sets-transform-number-reads.Post
-sets-transform-number κs arguments x y s t p q = p ∙ sym q
+pub fields-transform-number : OneAnswer 1 fields-transform-number-kinds.ps fields-transform-number-kinds.r (λ κs x s. x) fields-transform-number-reads.Post
+fields-transform-number κs arguments x y s t p q = p ∙ sym q
 
-pub sets-transform-id : OneAnswer 1 sets-transform-id-kinds.ps sets-transform-id-kinds.r (λ κs x s. x) sets-transform-id-reads.Post
-sets-transform-id κs arguments x y s t p q = p ∙ sym q
+pub fields-transform-id : OneAnswer 1 fields-transform-id-kinds.ps fields-transform-id-kinds.r (λ κs x s. x) fields-transform-id-reads.Post
+fields-transform-id κs arguments x y s t p q = p ∙ sym q
 
-pub sets-attributes-of : OneAnswer 1 sets-attributes-of-kinds.ps sets-attributes-of-kinds.r (λ κs x s. now x) sets-attributes-of-reads.Post
-sets-attributes-of κs arguments x y s t p q = p ∙ sym q
+pub fields-attributes-of : OneAnswer 1 fields-attributes-of-kinds.ps fields-attributes-of-kinds.r (λ κs x s. now x) fields-attributes-of-reads.Post
+fields-attributes-of κs arguments x y s t p q = p ∙ sym q
 
 pub offer-transform-bytes : OneAnswer 1 offer-transform-bytes-kinds.ps offer-transform-bytes-kinds.r (λ κs x s. now x) offer-transform-bytes-reads.Post
 offer-transform-bytes κs arguments x y s t p q = p ∙ sym q

@@ -20,9 +20,10 @@ use Rattle.message.specs.declared.Message.the-variants.{Read}
 use Rattle.message.proofs.Laws.{reading-header, read-as, one-sa-reads}
 use Rattle.message.proofs.Laws as laws
 use Rattle.offer.specs.Proposals.{offerCode}
-use Rattle.sets.specs.Parts.{set, setCount, setNumbered, proposal, proposalCount, proposalNumber, protocol, spi, transform, transformCount, transformNumber}
-use Rattle.sets.specs.declared.ProposalNumber.{ProposalNumber}
-use Rattle.sets.specs.declared.TransformNumber.{TransformNumber}
+use Rattle.fields.specs.Fields.{proposalNumber, protocol, spi, transformCount, transformNumber}
+use Rattle.sets.specs.Parts.{set, setCount, setNumbered, proposal, proposalCount, transform}
+use Rattle.fields.specs.declared.ProposalNumber.{ProposalNumber}
+use Rattle.fields.specs.declared.TransformNumber.{TransformNumber}
 use Rattle.suits.specs.Suits.{lowest, protocolsSuit}
 use Rattle.policy.specs.Choice.{numberOf, transformsOf, saFrom, choice}
 use Rattle.reply.specs.Reply.{ownSpi, saOf, setReply, spisLow, replied}

@@ -18,7 +18,7 @@ use Rattle.message.specs.Message.{Reading, refused, payloads, first, chain, rea
 use Rattle.message.specs.declared.Payload.{Payload}
 use Rattle.message.specs.declared.Message.{Message}
 use Rattle.sets.specs.Parts.{setEnd, firstSet, afterSet, numbered, setNumbered}
-use Rattle.sets.specs.declared.ProposalNumber.{ProposalNumber}
+use Rattle.fields.specs.declared.ProposalNumber.{ProposalNumber}
 use Rattle.book.specs.Book.{mainCount, quickStart, quickCount, bookSize, bookInFront, mainLinesLawful, quickLinesLawful}
 use Rattle.policy.specs.Choice.{bodyAt, chooseFrom}
 use Rattle.policy.specs.declared.LineNumber.{LineNumber}

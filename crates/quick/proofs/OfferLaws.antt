@@ -19,7 +19,8 @@ use Rattle.offer.specs.Proposals.{proposalWrong, has, with, setBefore, orderWro
 use Rattle.offer.specs.Proposals as proposals
 use Rattle.offer.proofs.Laws.{Item, Rising, end, on, LawfulTransform}
 use Rattle.offer.proofs.Written.{proposed, Keyed, keyed, Writes, proposed-transforms, alone-transforms, proposed-lawful, order-first}
-use Rattle.sets.specs.Parts.{skip, parts, firstItem, setEnd, firstSet, afterSet, set, setCount, proposal, proposalCount, transform, transformCount}
+use Rattle.fields.specs.Fields.{transformCount}
+use Rattle.sets.specs.Parts.{skip, parts, firstItem, setEnd, firstSet, afterSet, set, setCount, proposal, proposalCount, transform}
 use Rattle.sets.proofs.Laws.{Same, same-end, same-on}
 use Rattle.sets.proofs.Places.{proposals-count, proposals-place}
 use Rattle.book.specs.Book.{quickProtocols, quickMode, quickSeconds}

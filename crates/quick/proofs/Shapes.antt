@@ -19,7 +19,7 @@ use Rattle.checks.specs.Checks.{shapeOf, nonceIn, alike}
 use Rattle.quick.specs.Ends.{identityAt}
 use Rattle.checks.specs.declared.Own.{Own}
 use Rattle.sets.specs.Parts.{setNumbered}
-use Rattle.sets.specs.declared.ProposalNumber.{ProposalNumber}
+use Rattle.fields.specs.declared.ProposalNumber.{ProposalNumber}
 use Rattle.policy.specs.declared.LineNumber.{LineNumber}
 use Rattle.policy.specs.declared.Transforms.{Transforms}
 use Rattle.policy.specs.declared.Choice.the-variants.{Chosen}

@@ -16,8 +16,9 @@ use Rattle.wire.proofs.Laws.{number-drop, number-take, number-bytesOf, length-b
 use Rattle.offer.specs.Proposals.{proposalsCode, offerCode}
 use Rattle.offer.specs.Proposals as proposals
 use Rattle.offer.proofs.Written.{offer-right}
-use Rattle.sets.specs.Parts.{set, setCount, setNumbered, proposal, proposalCount, proposalNumber, protocol, spi, transform, transformCount}
-use Rattle.sets.specs.declared.ProposalNumber.{ProposalNumber}
+use Rattle.fields.specs.Fields.{proposalNumber, protocol, spi, transformCount}
+use Rattle.sets.specs.Parts.{set, setCount, setNumbered, proposal, proposalCount, transform}
+use Rattle.fields.specs.declared.ProposalNumber.{ProposalNumber}
 use Rattle.sets.proofs.Places.{LawfulSet, set-lawful, set-by-number, transform-lawful}
 use Rattle.suits.specs.Suits.{lowest}
 use Rattle.policy.specs.Choice.{numberOf, transformsOf, chosen, bodyAt, chooseFrom}

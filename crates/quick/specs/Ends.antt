@@ -10,7 +10,7 @@ use Rattle.wire.specs.Answer.{Answer, done, refused}
 use Rattle.identity.specs.Identity.{identity}
 use Rattle.message.specs.Message.{message}
 use Rattle.sets.specs.Parts.{setNumbered}
-use Rattle.sets.specs.declared.ProposalNumber.{ProposalNumber}
+use Rattle.fields.specs.declared.ProposalNumber.{ProposalNumber}
 use Rattle.book.specs.Book.{bookInFront, bookSize}
 use Rattle.policy.specs.Choice.{bodyAt, chooseFrom}
 use Rattle.policy.specs.declared.Transforms.{Transforms}

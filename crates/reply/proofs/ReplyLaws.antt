@@ -17,9 +17,10 @@ use Rattle.offer.specs.Proposals.{protocolWrong, transformBytes, proposalsCode,
 use Rattle.offer.specs.Proposals as proposals
 use Rattle.offer.proofs.Laws.{Item, Rising, end, on, LawfulTransform}
 use Rattle.offer.proofs.Written.{proposed, Keyed, unkeyed, keyed, Writes, alone-transforms, order-first, proposed-lawful, one-reads, two-read, offer-right}
-use Rattle.sets.specs.Parts.{skip, firstItem, set, setCount, setNumbered, proposal, proposalCount, proposalNumber, protocol, spi, transformCount, transform}
-use Rattle.sets.specs.declared.ProposalNumber.{ProposalNumber}
-use Rattle.sets.specs.declared.TransformNumber.{TransformNumber}
+use Rattle.fields.specs.Fields.{proposalNumber, protocol, spi, transformCount}
+use Rattle.sets.specs.Parts.{skip, firstItem, set, setCount, setNumbered, proposal, proposalCount, transform}
+use Rattle.fields.specs.declared.ProposalNumber.{ProposalNumber}
+use Rattle.fields.specs.declared.TransformNumber.{TransformNumber}
 use Rattle.sets.proofs.Laws.{Same, same-end, same-on}
 use Rattle.sets.proofs.Places.{LawfulSet, OneSet, one-set, transform-lawful}
 use Rattle.reply.specs.Reply.{ownSpi, fields, proposalOf, proposalReply, setReply, saOf, spiLow, spisLow, setReplied, choiceReplied, replied}

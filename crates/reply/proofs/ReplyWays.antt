@@ -11,9 +11,10 @@ use Rattle.wire.specs.Wire.{bytesOf, head, headed, paste, put}
 use Rattle.wire.specs.Tests.{if_then_else_}
 use Rattle.wire.proofs.Tests.{by-test}
 use Rattle.wire.proofs.Laws.{length-bytesOf, length-head, length-headed, paste-append, put-size, put-after, put-before, put-head-last}
-use Rattle.sets.specs.Parts.{setNumbered, proposal, proposalNumber, protocol, transformNumbered}
-use Rattle.sets.specs.declared.ProposalNumber.{ProposalNumber}
-use Rattle.sets.specs.declared.TransformNumber.{TransformNumber}
+use Rattle.fields.specs.Fields.{proposalNumber, protocol}
+use Rattle.sets.specs.Parts.{setNumbered, proposal, transformNumbered}
+use Rattle.fields.specs.declared.ProposalNumber.{ProposalNumber}
+use Rattle.fields.specs.declared.TransformNumber.{TransformNumber}
 use Rattle.sets.proofs.Laws.{transform-within, two-within}
 use Rattle.policy.specs.Choice.{saFrom, choice}
 use Rattle.reply.specs.Reply.{ownSpi, fields, proposalOf, proposalReply, setReply, saOf, spiLow, spisLow, setReplied, choiceReplied, replied, choiceRefusal}

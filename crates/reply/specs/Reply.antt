@@ -8,8 +8,9 @@ use lib.Dec.{ltb, eqb}
 use Rattle.wire.specs.Wire.{bytesOf, head, headed, paste}
 use Rattle.wire.specs.Tests.{if_then_else_}
 use Rattle.wire.specs.Answer.{Answer, done, refused}
-use Rattle.sets.specs.Parts.{setNumbered, proposal, proposalNumber, protocol, transformNumbered}
-use Rattle.sets.specs.declared.TransformNumber.{TransformNumber}
+use Rattle.fields.specs.Fields.{proposalNumber, protocol}
+use Rattle.sets.specs.Parts.{setNumbered, proposal, transformNumbered}
+use Rattle.fields.specs.declared.TransformNumber.{TransformNumber}
 use Rattle.policy.specs.Choice.{saFrom, choice}
 use Rattle.policy.specs.declared.Transforms.{Transforms}
 use Rattle.policy.specs.declared.Transforms.the-variants.{One, Two}

@@ -1,13 +1,13 @@
 // The reply: the chosen set with one transform in each proposal, as offered, and own SPIs.
+use fields::ProposalNumber;
+use fields::TransformNumber;
+use fields::proposal_number;
+use fields::protocol;
 use policy::Choice;
 use policy::Transforms;
 use policy::choose::choose;
 use policy::choose::sa_body;
-use sets::ProposalNumber;
-use sets::TransformNumber;
 use sets::proposal;
-use sets::proposal_number;
-use sets::protocol;
 use sets::set_numbered;
 use sets::transform_numbered;
 use wire::after;

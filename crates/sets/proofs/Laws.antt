@@ -14,7 +14,7 @@ use Rattle.wire.proofs.Tests.{by-test}
 use Rattle.wire.proofs.Laws.{number-append, number-append-add}
 use Rattle.offer.specs.Proposals.{transformBytes, offerCode}
 use Rattle.sets.specs.Parts.{skip, firstItem, afterItem, setEnd, firstSet, afterSet, numbered, proposal, transformNumbered}
-use Rattle.sets.specs.declared.TransformNumber.{TransformNumber}
+use Rattle.fields.specs.declared.TransformNumber.{TransformNumber}
 use Rattle.offer.proofs.Laws.{Item, Rising, end, on, offer-reads}
 
 -- ---- the proposals

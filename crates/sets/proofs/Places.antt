@@ -10,7 +10,8 @@ use Rattle.wire.specs.Wire.{numberAt}
 use Rattle.offer.specs.Transforms.{transformsCode}
 use Rattle.offer.specs.Proposals.{transformBytes, offerCode}
 use Rattle.offer.proofs.Laws.{Item, Rising, end, on, LawfulTransform, first-transform, after-transform}
-use Rattle.sets.specs.Parts.{skip, parts, firstItem, afterItem, setEnd, firstSet, afterSet, numbered, set, setCount, setNumbered, proposal, proposalCount, proposalNumber, transformCount, transform, transformNumbered, transformNumber}
+use Rattle.fields.specs.Fields.{proposalNumber, transformCount, transformNumber}
+use Rattle.sets.specs.Parts.{skip, parts, firstItem, afterItem, setEnd, firstSet, afterSet, numbered, set, setCount, setNumbered, proposal, proposalCount, transform, transformNumbered}
 use Rattle.sets.proofs.Laws.{first-item, after-item, Same, same-end, same-on, Sets, sets-end, sets-on, parted, flatten-some, alone-first, alone-after}
 
 -- ---- any parts, one behind the other

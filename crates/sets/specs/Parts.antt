@@ -7,8 +7,8 @@ use lib.Dec.{ltb, eqb}
 use Rattle.wire.specs.Wire.{numberAt}
 use Rattle.wire.specs.Tests.{if_then_else_}
 use Rattle.offer.specs.Proposals.{transformBytes}
-use Rattle.sets.specs.declared.ProposalNumber.{ProposalNumber}
-use Rattle.sets.specs.declared.TransformNumber.{TransformNumber}
+use Rattle.fields.specs.declared.ProposalNumber.{ProposalNumber}
+use Rattle.fields.specs.declared.TransformNumber.{TransformNumber}
 
 -- what is left of s after k of its parts, where rest takes off the first
 unfoldable pub skip : (List ℕ → List ℕ) → ℕ → List ℕ → List ℕ
@@ -64,32 +64,10 @@ proposal k set = firstItem (skip afterItem k set)
 unfoldable pub proposalCount : List ℕ → ℕ
 proposalCount set = parts afterItem 16 set
 
--- a proposal's number, protocol, SPI, count of transforms, and its transform k
-unfoldable pub proposalNumber : List ℕ → ProposalNumber
-proposalNumber p = record { 0 = getD p 4 0 }
-
-unfoldable pub protocol : List ℕ → ℕ
-protocol p = getD p 5 0
-
-unfoldable pub spi : List ℕ → List ℕ
-spi p = take (getD p 6 0) (drop 8 p)
-
-unfoldable pub transformCount : List ℕ → ℕ
-transformCount p = getD p 7 0
-
+-- transform k of a proposal, counted from 0
 unfoldable pub transform : ℕ → List ℕ → List ℕ
 transform k p = firstItem (skip afterItem k (transformBytes p))
 
 -- the transform that has this number
 unfoldable pub transformNumbered : TransformNumber → List ℕ → List ℕ
 transformNumbered number p = numbered firstItem afterItem 8 (number .0) (transformBytes p)
-
--- a transform's number, ID and attributes
-unfoldable pub transformNumber : List ℕ → TransformNumber
-transformNumber t = record { 0 = getD t 4 0 }
-
-unfoldable pub transformId : List ℕ → ℕ
-transformId t = getD t 5 0
-
-unfoldable pub attributesOf : List ℕ → List ℕ
-attributesOf t = drop 8 t

@@ -1,16 +1,13 @@
 // What later layers take out of an SA payload's body that reads: sets, proposals, transforms. Every function takes any bytes.
+use fields::ProposalNumber;
+use fields::TransformNumber;
 use offer::transform_bytes;
 use wire::after;
 use wire::be16;
 use wire::byte;
 use wire::front;
 ghost use mathlib.Core.Path.{_≡_};
-ghost use Rattle.sets.specs.Parts.{skip, parts, firstItem, afterItem, setEnd, firstSet, afterSet, numbered, set, setCount, setNumbered, proposal, proposalCount, proposalNumber, protocol, spi, transformCount, transform, transformNumbered, transformNumber, transformId, attributesOf};
-
-// Proposal numbers and transform numbers are separate countings.
-pub struct ProposalNumber(pub u8);
-
-pub struct TransformNumber(pub u8);
+ghost use Rattle.sets.specs.Parts.{skip, parts, firstItem, afterItem, setEnd, firstSet, afterSet, numbered, set, setCount, setNumbered, proposal, proposalCount, transform, transformNumbered};
 
 fn first_item(s: &[u8]) -> &[u8]
     ensures { λ r. ⌜ now r ≡ firstItem (now (s .entry)) ⌝ }
@@ -154,30 +151,6 @@ pub fn proposal_count(set: &[u8]) -> u8
     items(16, set)
 }
 
-pub fn proposal_number(p: &[u8]) -> ProposalNumber
-    ensures { λ r. ⌜ r ≡ proposalNumber (now (p .entry)) ⌝ }
-{
-    ProposalNumber(byte(p, 4))
-}
-
-pub fn protocol(p: &[u8]) -> u8
-    ensures { λ r. ⌜ r ≡ protocol (now (p .entry)) ⌝ }
-{
-    byte(p, 5)
-}
-
-pub fn spi(p: &[u8]) -> &[u8]
-    ensures { λ r. ⌜ now r ≡ spi (now (p .entry)) ⌝ }
-{
-    front(after(p, 8), byte(p, 6) as usize)
-}
-
-pub fn transform_count(p: &[u8]) -> u8
-    ensures { λ r. ⌜ r ≡ transformCount (now (p .entry)) ⌝ }
-{
-    byte(p, 7)
-}
-
 // Transform k of a proposal, counted from 0.
 pub fn transform(k: u8, p: &[u8]) -> &[u8]
     ensures { λ r. ⌜ now r ≡ transform k (now (p .entry)) ⌝ }
@@ -190,22 +163,4 @@ pub fn transform_numbered(number: TransformNumber, p: &[u8]) -> &[u8]
     ensures { λ r. ⌜ now r ≡ transformNumbered number (now (p .entry)) ⌝ }
 {
     numbered_item(8, number.0, transform_bytes(p))
-}
-
-pub fn transform_number(t: &[u8]) -> TransformNumber
-    ensures { λ r. ⌜ r ≡ transformNumber (now (t .entry)) ⌝ }
-{
-    TransformNumber(byte(t, 4))
-}
-
-pub fn transform_id(t: &[u8]) -> u8
-    ensures { λ r. ⌜ r ≡ transformId (now (t .entry)) ⌝ }
-{
-    byte(t, 5)
-}
-
-pub fn attributes_of(t: &[u8]) -> &[u8]
-    ensures { λ r. ⌜ now r ≡ attributesOf (now (t .entry)) ⌝ }
-{
-    after(t, 8)
 }

@@ -8,7 +8,8 @@ use lib.Dec.{eqb, leb}
 use borrow.Author.Tests.{eq-eqb, ne-eqb, le-leb}
 use Rattle.wire.specs.Tests.{if_then_else_}
 use Rattle.wire.proofs.Tests.{clash}
-use Rattle.sets.specs.Parts.{transform, transformId, attributesOf, protocol, proposal, proposalCount}
+use Rattle.fields.specs.Fields.{transformId, attributesOf, protocol}
+use Rattle.sets.specs.Parts.{transform, proposal, proposalCount}
 use Rattle.book.specs.Book.{mainSeconds, quickProtocols, quickMode, quickSeconds}
 use Rattle.suits.specs.Suits.{valueIs, nothingSurplus, quickId, lifeWithin, quickIntegrity, mainSuits, quickSuits, transformSuits, lowestFrom, lowest, protocolsAlone, protocolsBoth, protocolsSuit, setSuits}
 

@@ -7,7 +7,8 @@ use lib.Dec.{ltb, leb, eqb}
 use Rattle.wire.specs.Tests.{if_then_else_}
 use Rattle.book.specs.Book.{mainSeconds, quickProtocols, quickMode, quickSeconds}
 use Rattle.attribute.specs.Attributes.{attribute, attributeCount, value}
-use Rattle.sets.specs.Parts.{protocol, proposal, proposalCount, transform, transformCount, transformId, attributesOf}
+use Rattle.fields.specs.Fields.{protocol, transformCount, transformId, attributesOf}
+use Rattle.sets.specs.Parts.{proposal, proposalCount, transform}
 
 -- an attribute is there, is there with this value, or with a value from 1 to the longest
 unfoldable pub present : ℕ → List ℕ → Bool

@@ -2,7 +2,7 @@
 use Prim.Native.Nat.{ℕ}
 use mathlib.Core.Path.{_≡_, sym, ap, _∙_}
 use borrow.Author.Needs.{needs}
-use Rattle.sets.specs.declared.ProposalNumber.{ProposalNumber}
+use Rattle.fields.specs.declared.ProposalNumber.{ProposalNumber}
 use Rattle.policy.specs.declared.LineNumber.{LineNumber}
 use Rattle.policy.specs.declared.Transforms.{Transforms}
 use Rattle.policy.specs.declared.Choice.{Choice}

@@ -1,7 +1,7 @@
-use Rattle.sets.specs.Parts.{proposalNumber}
+use Rattle.fields.specs.Fields.{proposalNumber}
 use borrow.Author.Needs.{needs}
-use Rattle.sets.proofs.proposal_number.Statement.{statement}
-use Rattle.sets.proofs.proposal_number.Tie as tie
+use Rattle.fields.proofs.proposal_number.Statement.{statement}
+use Rattle.fields.proofs.proposal_number.Tie as tie
 
 pub proposal-number-spec : {M : Type 1} → statement M
 unfolding proposalNumber

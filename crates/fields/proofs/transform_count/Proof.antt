@@ -1,7 +1,7 @@
-use Rattle.sets.specs.Parts.{transformCount}
+use Rattle.fields.specs.Fields.{transformCount}
 use borrow.Author.Needs.{needs}
-use Rattle.sets.proofs.transform_count.Statement.{statement}
-use Rattle.sets.proofs.transform_count.Tie as tie
+use Rattle.fields.proofs.transform_count.Statement.{statement}
+use Rattle.fields.proofs.transform_count.Tie as tie
 
 pub transform-count-spec : {M : Type 1} → statement M
 unfolding transformCount

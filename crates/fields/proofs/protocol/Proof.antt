@@ -1,7 +1,7 @@
-use Rattle.sets.specs.Parts.{protocol}
+use Rattle.fields.specs.Fields.{protocol}
 use borrow.Author.Needs.{needs}
-use Rattle.sets.proofs.protocol.Statement.{statement}
-use Rattle.sets.proofs.protocol.Tie as tie
+use Rattle.fields.proofs.protocol.Statement.{statement}
+use Rattle.fields.proofs.protocol.Tie as tie
 
 pub protocol-spec : {M : Type 1} → statement M
 unfolding protocol

@@ -1,7 +1,7 @@
-use Rattle.sets.specs.Parts.{spi}
+use Rattle.fields.specs.Fields.{spi}
 use borrow.Author.Needs.{needs}
-use Rattle.sets.proofs.spi.Statement.{statement}
-use Rattle.sets.proofs.spi.Tie as tie
+use Rattle.fields.proofs.spi.Statement.{statement}
+use Rattle.fields.proofs.spi.Tie as tie
 
 pub spi-spec : {M : Type 1} → statement M
 unfolding spi

@@ -1,7 +1,7 @@
-use Rattle.sets.specs.Parts.{attributesOf}
+use Rattle.fields.specs.Fields.{attributesOf}
 use borrow.Author.Needs.{needs}
-use Rattle.sets.proofs.attributes_of.Statement.{statement}
-use Rattle.sets.proofs.attributes_of.Tie as tie
+use Rattle.fields.proofs.attributes_of.Statement.{statement}
+use Rattle.fields.proofs.attributes_of.Tie as tie
 
 pub attributes-of-spec : {M : Type 1} → statement M
 unfolding attributesOf

@@ -1,7 +1,7 @@
-use Rattle.sets.specs.Parts.{transformNumber}
+use Rattle.fields.specs.Fields.{transformNumber}
 use borrow.Author.Needs.{needs}
-use Rattle.sets.proofs.transform_number.Statement.{statement}
-use Rattle.sets.proofs.transform_number.Tie as tie
+use Rattle.fields.proofs.transform_number.Statement.{statement}
+use Rattle.fields.proofs.transform_number.Tie as tie
 
 pub transform-number-spec : {M : Type 1} → statement M
 unfolding transformNumber

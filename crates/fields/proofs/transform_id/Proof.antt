@@ -1,7 +1,7 @@
-use Rattle.sets.specs.Parts.{transformId}
+use Rattle.fields.specs.Fields.{transformId}
 use borrow.Author.Needs.{needs}
-use Rattle.sets.proofs.transform_id.Statement.{statement}
-use Rattle.sets.proofs.transform_id.Tie as tie
+use Rattle.fields.proofs.transform_id.Statement.{statement}
+use Rattle.fields.proofs.transform_id.Tie as tie
 
 pub transform-id-spec : {M : Type 1} → statement M
 unfolding transformId
