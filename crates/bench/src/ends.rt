@@ -1,9 +1,9 @@
 // The two ends of quick mode as they go from line to line, and which part of the kept buffers is lent to them.
 use crate::State;
 use crate::say::append;
-use checks::Role;
-use quick::End;
-use quick::fresh::fresh;
+use ends::End;
+use ends::Role;
+use ends::fresh;
 use wire::after;
 use wire::equal;
 use wire::front;

@@ -16,8 +16,8 @@ use crate::number::Cookie;
 use crate::number::Number;
 use crate::say;
 use crate::words;
-use checks::Role;
-use quick::End;
+use ends::End;
+use ends::Role;
 use wire::after;
 use wire::front;
 use wire::put_bytes;
@@ -102,7 +102,7 @@ fn make(
     mut state: State,
 ) -> State {
     let role = own.role;
-    let made = quick::fresh::fresh(role, own.icookie, own.rcookie, book, own.ah, own.esp, nonce);
+    let made = ends::fresh(role, own.icookie, own.rcookie, book, own.ah, own.esp, nonce);
     if made.number != 0 {
         state.said = say::refused(out, state.said, made.number);
         return state;

@@ -12,12 +12,12 @@ use crate::hex::Parted;
 use crate::say;
 use crate::say::append;
 use crate::words;
-use checks::Agreed;
-use checks::Own;
-use checks::Role;
-use checks::Spis;
-use quick::End;
-use quick::Progress;
+use ends::Agreed;
+use ends::End;
+use ends::Own;
+use ends::Progress;
+use ends::Role;
+use ends::Spis;
 use wire::after;
 use wire::front;
 use wire::put_be32;
@@ -54,13 +54,13 @@ fn state_and_sends(progress: Progress, out: &mut [u8], said: usize) -> usize {
     say::number(out, said, progress.sends as u64)
 }
 
-fn state_name(state: checks::State, out: &mut [u8], said: usize) -> usize {
+fn state_name(state: ends::State, out: &mut [u8], said: usize) -> usize {
     match state {
-        checks::State::Idle => append(out, said, b"idle"),
-        checks::State::Sent => append(out, said, b"sent"),
-        checks::State::Half => append(out, said, b"half"),
-        checks::State::Open => append(out, said, b"open"),
-        checks::State::GivenUp => append(out, said, b"given-up"),
+        ends::State::Idle => append(out, said, b"idle"),
+        ends::State::Sent => append(out, said, b"sent"),
+        ends::State::Half => append(out, said, b"half"),
+        ends::State::Open => append(out, said, b"open"),
+        ends::State::GivenUp => append(out, said, b"given-up"),
     }
 }
 
@@ -107,11 +107,11 @@ fn nonces(own: Own, got: &[u8], out: &mut [u8], said: usize) -> usize {
     let mine = front(&own.nonce, own.noncesize as usize);
     match role {
         Role::Initiator => {
-            let theirs = checks::nonce(Role::Responder, got, got);
+            let theirs = shapes::nonce(Role::Responder, got, got);
             nonces_in_order(mine, theirs, out, said)
         }
         Role::Responder => {
-            let theirs = checks::nonce(Role::Initiator, got, got);
+            let theirs = shapes::nonce(Role::Initiator, got, got);
             nonces_in_order(theirs, mine, out, said)
         }
     }
@@ -158,7 +158,7 @@ pub(crate) fn nonce(line: &[u8], bytes: &mut [u8], out: &mut [u8], said: usize) 
         return say::bad_line(out, said);
     };
     let both = front(bytes, end);
-    let nonce = checks::nonce(role, front(both, middle), after(both, middle));
+    let nonce = shapes::nonce(role, front(both, middle), after(both, middle));
     let said = append(out, said, b"nonce ");
     say::word(out, said, nonce)
 }

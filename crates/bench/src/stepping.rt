@@ -21,7 +21,7 @@ use crate::number::Number;
 use crate::say;
 use crate::say::append;
 use crate::words;
-use checks::Role;
+use ends::Role;
 use quick::StepAnswer;
 use quick::Stepped;
 use wire::after;

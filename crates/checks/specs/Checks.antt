@@ -1,61 +1,32 @@
 -- What the ends ask of a message that is delivered, document 01, "Quick mode ends".
 use Prim.Native.Nat.{ℕ}
-use mathlib.Core.List.{List, []}
-use mathlib.Core.Bool.{Bool, true, false, not, _||_, _&&_}
-use lib.ListN.{length, getD, take, drop}
-use lib.Dec.{ltb, leb, eqb}
+use mathlib.Core.List.{List}
+use mathlib.Core.Bool.{Bool, not, _||_, _&&_}
+use lib.ListN.{length}
+use lib.Dec.{ltb, eqb}
 use Rattle.wire.specs.Wire.{numberAt, equal}
 use Rattle.wire.specs.Tests.{if_then_else_}
 use Rattle.message.specs.Header.{flagsOf}
-use Rattle.message.specs.Message.{message, payloadAt}
+use Rattle.message.specs.Message.{message}
 use Rattle.message.specs.declared.Message.{Message}
 use Rattle.message.specs.declared.Message.the-variants.{Refused, Read}
 use Rattle.fields.specs.Fields.{proposalNumber, protocol, transformCount, transformNumber}
 use Rattle.sets.specs.Parts.{set, setCount, setNumbered, proposal, proposalCount, transform}
 use Rattle.policy.specs.Choice.{bodyAt}
+use Rattle.ends.specs.Fresh.{isIdle, isInitiator}
+use Rattle.shapes.specs.Shapes.{shape, shapeOf}
 use Rattle.policy.specs.declared.Transforms.{Transforms}
 use Rattle.policy.specs.declared.Transforms.the-variants.{One, Two}
-use Rattle.checks.specs.declared.Role.{Role}
-use Rattle.checks.specs.declared.Role.the-variants.{Initiator, Responder}
-use Rattle.checks.specs.declared.State.{State}
-use Rattle.checks.specs.declared.State.the-variants.{Idle, Sent, Half, Open, GivenUp}
-use Rattle.checks.specs.declared.Own.{Own}
-use Rattle.checks.specs.declared.Spis.{Spis}
-use Rattle.checks.specs.declared.Spis.the-variants.{Alone, Both}
-use Rattle.checks.specs.declared.Agreed.{Agreed}
-
--- "shape 8-1-10, 8-1-10-5-5 or 8 alone": the count of payloads, 0 where the shape is another
-unfoldable pub kindIs : ℕ → List ℕ → ℕ → Bool
-kindIs k m kind = eqb (payloadAt k m .kind) kind
-
-unfoldable pub shape : ℕ → List ℕ → ℕ
-shape count m =
-    if kindIs 0 m 8
-    && (eqb count 1 || kindIs 1 m 1 && kindIs 2 m 10 && (eqb count 3 || eqb count 5 && kindIs 3 m 5 && kindIs 4 m 5))
-    then count else 0
-
--- "either longer shape"
-unfoldable pub isLonger : ℕ → Bool
-isLonger shape = eqb shape 3 || eqb shape 5
-
--- "'Equal' messages means equal apart from" the 32 hash bytes
-unfoldable pub alike : List ℕ → List ℕ → Bool
-alike m n = eqb (length m) (length n) && equal (take 32 m) (take 32 n) && equal (drop 64 m) (drop 64 n)
+use Rattle.ends.specs.declared.State.{State}
+use Rattle.ends.specs.declared.State.the-variants.{Idle}
+use Rattle.ends.specs.declared.Own.{Own}
+use Rattle.ends.specs.declared.Spis.{Spis}
+use Rattle.ends.specs.declared.Spis.the-variants.{Alone, Both}
+use Rattle.ends.specs.declared.Agreed.{Agreed}
 
 -- "cookies (4)": both as this exchange has them
 unfoldable pub cookiesWrong : Own → List ℕ → Bool
 cookiesWrong own m = not (eqb (numberAt 8 m 0) (own .icookie) && eqb (numberAt 8 m 8) (own .rcookie))
-
-unfoldable pub isIdle : State → Bool
-isIdle Idle = true
-isIdle Sent = false
-isIdle Half = false
-isIdle Open = false
-isIdle GivenUp = false
-
-unfoldable pub isInitiator : Role → Bool
-isInitiator Initiator = true
-isInitiator Responder = false
 
 -- "exchange not 32 (7), flag not 1 (8), initiator Idle (8195), cookies (4), message ID (9; an Idle responder takes it), shape 8-1-10,
 -- 8-1-10-5-5 or 8 alone (16), over 2,048 bytes (30)"
@@ -74,14 +45,6 @@ quickCode own state id exchange count m =
 unfoldable pub readCode : Own → State → ℕ → List ℕ → Message → ℕ
 readCode own state id m (Refused number) = number
 readCode own state id m (Read exchange count) = quickCode own state id exchange count m
-
--- how many payloads a message that reads has, and its shape
-unfoldable pub countOf : Message → ℕ
-countOf (Refused number) = 0
-countOf (Read exchange count) = count
-
-unfoldable pub shapeOf : List ℕ → ℕ
-shapeOf m = shape (countOf (message m)) m
 
 -- "protocols, order and each transform as offered": one transform, byte for byte the offered one
 unfoldable pub proposalTaken : List ℕ → List ℕ → Bool
@@ -141,17 +104,3 @@ agreedTwo sent m = record {
   initiator = spisOf (offeredSet sent m);
   responder = spisOf (repliedSet m);
 }
-
--- ---- the nonce
-
--- "hand back the nonce body as it stands in that role's message, or an empty part unless it reads as exchange 32 in either longer shape"
-unfoldable pub nonceRead : List ℕ → Message → List ℕ
-nonceRead m (Refused number) = []
-nonceRead m (Read exchange count) = if eqb exchange 32 && isLonger (shape count m) then bodyAt 2 m else []
-
-unfoldable pub nonceIn : List ℕ → List ℕ
-nonceIn m = nonceRead m (message m)
-
-unfoldable pub nonce : Role → List ℕ → List ℕ → List ℕ
-nonce Initiator one two = nonceIn one
-nonce Responder one two = nonceIn two

@@ -1,11 +1,16 @@
-// What the ends ask of a message that is delivered. Every function takes any bytes.
+// What the ends ask of a message that is delivered, and what is agreed by it. Every function takes any bytes.
+use ends::Agreed;
+use ends::Own;
+use ends::Spis;
+use ends::State;
+use ends::is_idle;
+use ends::is_initiator;
 use fields::ProposalNumber;
 use fields::proposal_number;
 use fields::protocol;
 use fields::transform_count;
 use fields::transform_number;
 use message::Message;
-use message::payload_at;
 use policy::Transforms;
 use policy::choose::body_at;
 use sets::proposal;
@@ -14,87 +19,14 @@ use sets::set;
 use sets::set_count;
 use sets::set_numbered;
 use sets::transform;
-use wire::after;
+use shapes::shape;
+use shapes::shape_of;
 use wire::be32;
 use wire::byte;
 use wire::equal;
-use wire::front;
 ghost use mathlib.Core.Path.{_≡_};
 ghost use Rattle.wire.specs.Wire.{numberAt};
-ghost use Rattle.checks.specs.Checks.{kindIs, shape, isLonger, alike, cookiesWrong, isIdle, isInitiator, quickCode, readCode, countOf, shapeOf, proposalTaken, setTaken, repliedSet, offeredSet, identitiesSame, takenCode, spisOf, transformsIn, spiFor, ownSpis, agreedTwo, nonceRead, nonceIn, nonce};
-
-pub enum Role {
-    Initiator,
-    Responder,
-}
-
-pub enum State {
-    Idle,
-    Sent,
-    Half,
-    Open,
-    GivenUp,
-}
-
-// What an end is given once: cookies, its SPIs, and the first bytes of two arrays as its book and its nonce.
-pub struct Own {
-    pub role: Role,
-    pub icookie: u64,
-    pub rcookie: u64,
-    pub ah: u32,
-    pub esp: u32,
-    pub booksize: u8,
-    pub book: [u8; 82],
-    pub noncesize: u16,
-    pub nonce: [u8; 256],
-}
-
-// The SPIs of one side, in the order of the set's proposals.
-pub enum Spis {
-    Alone(u32),
-    Both(u32, u32),
-}
-
-// What both ends hold once it is agreed.
-pub struct Agreed {
-    pub set: ProposalNumber,
-    pub transforms: Transforms,
-    pub initiator: Spis,
-    pub responder: Spis,
-}
-
-fn kind_is(k: u8, m: &[u8], kind: u8) -> bool
-    ensures { λ r. ⌜ r ≡ kindIs k (now (m .entry)) kind ⌝ }
-{
-    let p = payload_at(m, k);
-    p.kind == kind
-}
-
-// The count of payloads where their types are those of a quick mode message, else 0.
-pub fn shape(count: u8, m: &[u8]) -> u8
-    ensures { λ r. ⌜ r ≡ shape count (now (m .entry)) ⌝ }
-{
-    let longer = kind_is(1, m, 1) & kind_is(2, m, 10);
-    let identities = (count == 5) & kind_is(3, m, 5) & kind_is(4, m, 5);
-    if kind_is(0, m, 8) & ((count == 1) | longer & ((count == 3) | identities)) {
-        count
-    } else {
-        0
-    }
-}
-
-pub fn is_longer(shape: u8) -> bool
-    ensures { λ r. ⌜ r ≡ isLonger shape ⌝ }
-{
-    (shape == 3) | (shape == 5)
-}
-
-// Whether two messages are equal apart from the 32 hash bytes.
-pub fn alike(m: &[u8], n: &[u8]) -> bool
-    ensures { λ r. ⌜ r ≡ alike (now (m .entry)) (now (n .entry)) ⌝ }
-{
-    (m.len() == n.len()) & equal(front(m, 32), front(n, 32)) & equal(after(m, 64), after(n, 64))
-}
+ghost use Rattle.checks.specs.Checks.{cookiesWrong, quickCode, readCode, proposalTaken, setTaken, repliedSet, offeredSet, identitiesSame, takenCode, spisOf, transformsIn, spiFor, ownSpis, agreedTwo};
 
 fn be64(s: &[u8], at: usize) -> u64
     ensures { λ r. ⌜ r ≡ numberAt 8 (now (s .entry)) at ⌝ }
@@ -110,27 +42,6 @@ fn cookies_wrong(own: Own, m: &[u8]) -> bool
     ensures { λ r. ⌜ r ≡ cookiesWrong own (now (m .entry)) ⌝ }
 {
     !((be64(m, 0) == own.icookie) & (be64(m, 8) == own.rcookie))
-}
-
-pub fn is_idle(state: State) -> bool
-    ensures { λ r. ⌜ r ≡ isIdle state ⌝ }
-{
-    match state {
-        State::Idle => true,
-        State::Sent => false,
-        State::Half => false,
-        State::Open => false,
-        State::GivenUp => false,
-    }
-}
-
-pub fn is_initiator(role: Role) -> bool
-    ensures { λ r. ⌜ r ≡ isInitiator role ⌝ }
-{
-    match role {
-        Role::Initiator => true,
-        Role::Responder => false,
-    }
 }
 
 fn quick_code(own: Own, state: State, id: u32, exchange: u8, count: u8, m: &[u8]) -> u16
@@ -170,22 +81,6 @@ pub fn read_code(own: Own, state: State, id: u32, m: &[u8], read: Message) -> u1
         Message::Refused(number) => number,
         Message::Read { exchange, count } => quick_code(own, state, id, exchange, count, m),
     }
-}
-
-pub fn count_of(read: Message) -> u8
-    ensures { λ r. ⌜ r ≡ countOf read ⌝ }
-{
-    match read {
-        Message::Refused(_) => 0,
-        Message::Read { exchange: _, count } => count,
-    }
-}
-
-// The shape of a message: 1, 3, 5 by its count of payloads, or 0.
-fn shape_of(m: &[u8]) -> u8
-    ensures { λ r. ⌜ r ≡ shapeOf (now (m .entry)) ⌝ }
-{
-    shape(count_of(message::read(m)), m)
 }
 
 fn proposal_taken(p: &[u8], offered: &[u8]) -> bool
@@ -294,29 +189,5 @@ pub fn agreed_two(sent: &[u8], m: &[u8]) -> Agreed
         transforms,
         initiator,
         responder,
-    }
-}
-
-fn nonce_in(m: &[u8]) -> &[u8]
-    ensures { λ r. ⌜ now r ≡ nonceIn (now (m .entry)) ⌝ }
-{
-    let read = message::read(m);
-    let Message::Read { exchange, count } = read else {
-        return front(m, 0);
-    };
-    if (exchange == 32) & is_longer(shape(count, m)) {
-        return body_at(2, m);
-    }
-    front(m, 0)
-}
-
-// The nonce as it stands in the initiator's or the responder's message; no bytes unless that message reads as exchange 32 in either longer
-// shape. Message 3 overwrites the start of an initiator's `sent`: its own nonce is in its record.
-pub fn nonce<'a>(role: Role, initiators: &'a [u8], responders: &'a [u8]) -> &'a [u8]
-    ensures { λ r. ⌜ now r ≡ nonce role (now (initiators .entry)) (now (responders .entry)) ⌝ }
-{
-    match role {
-        Role::Initiator => nonce_in(initiators),
-        Role::Responder => nonce_in(responders),
     }
 }

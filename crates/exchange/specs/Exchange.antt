@@ -11,16 +11,17 @@ use Rattle.policy.specs.Choice.{bodyAt, chooseFrom}
 use Rattle.policy.specs.declared.LineNumber.{LineNumber}
 use Rattle.policy.specs.declared.Transforms.{Transforms}
 use Rattle.policy.specs.declared.Choice.the-variants.{Chosen}
-use Rattle.quick.specs.Messages.{bookOf, nonceOf, messageOne, messageTwo, messageThree}
-use Rattle.checks.specs.Checks.{alike, nonce}
-use Rattle.quick.specs.Ends.{After, fresh, begun, ticked, delivered, kept}
-use Rattle.checks.specs.declared.Role.{Role}
-use Rattle.checks.specs.declared.Role.the-variants.{Initiator, Responder}
-use Rattle.checks.specs.declared.State.{State}
-use Rattle.checks.specs.declared.State.the-variants.{GivenUp}
-use Rattle.checks.specs.declared.Own.{Own}
-use Rattle.checks.specs.declared.Agreed.{Agreed}
-use Rattle.quick.specs.declared.End.{End}
+use Rattle.writing.specs.Messages.{bookOf, nonceOf, messageOne, messageTwo, messageThree}
+use Rattle.shapes.specs.Shapes.{alike, nonce}
+use Rattle.ends.specs.Fresh.{fresh}
+use Rattle.quick.specs.Ends.{After, begun, ticked, delivered, kept}
+use Rattle.ends.specs.declared.Role.{Role}
+use Rattle.ends.specs.declared.Role.the-variants.{Initiator, Responder}
+use Rattle.ends.specs.declared.State.{State}
+use Rattle.ends.specs.declared.State.the-variants.{GivenUp}
+use Rattle.ends.specs.declared.Own.{Own}
+use Rattle.ends.specs.declared.Agreed.{Agreed}
+use Rattle.ends.specs.declared.End.{End}
 use Rattle.quick.specs.declared.StepAnswer.{StepAnswer}
 use Rattle.quick.specs.declared.StepAnswer.the-variants.{Send, Nothing, Refused}
 

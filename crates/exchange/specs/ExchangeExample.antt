@@ -14,19 +14,22 @@ use Rattle.offer.specs.Proposals as proposals
 use Rattle.message.specs.Header as header
 use Rattle.message.specs.Payloads as payloads
 use Rattle.message.specs.Message as message
+use Rattle.fields.specs.Fields as fields
 use Rattle.sets.specs.Parts as parts
 use Rattle.book.specs.Book as books
 use Rattle.suits.specs.Suits as suits
 use Rattle.policy.specs.Choice as choices
 use Rattle.reply.specs.Reply as replies
-use Rattle.quick.specs.Messages as messages
+use Rattle.writing.specs.Messages as messages
+use Rattle.shapes.specs.Shapes as shapes
 use Rattle.checks.specs.Checks as checks
+use Rattle.ends.specs.Fresh as fresh
 use Rattle.quick.specs.Ends as ends
 use Rattle.policy.specs.declared.Transforms.the-variants.{Two}
-use Rattle.checks.specs.declared.Role.the-variants.{Initiator, Responder}
-use Rattle.checks.specs.declared.Spis.the-variants.{Both}
-use Rattle.checks.specs.declared.Agreed.{Agreed}
-use Rattle.checks.specs.declared.State.the-variants.{Open}
+use Rattle.ends.specs.declared.Role.the-variants.{Initiator, Responder}
+use Rattle.ends.specs.declared.Spis.the-variants.{Both}
+use Rattle.ends.specs.declared.Agreed.{Agreed}
+use Rattle.ends.specs.declared.State.the-variants.{Open}
 use Rattle.exchange.specs.Exchange.{begin, deliver, tick, called, World, Event, atFirst, atSecond, step, here, Fair, Run, rest, goes, Fresh, stateOf, agreedOf}
 
 -- the initiator's policy book has two quick lines: ESP alone, and AH with ESP, mode 1 and 3,600 seconds; the responder's has the second alone
@@ -54,8 +57,8 @@ buffer = replicate 2048 0
 
 unfoldable pub start : World
 start = record {
-  initiator = record { end = ends.fresh Initiator 3 4 bookOne 256 257 nonceOne .end; sent = buffer; got = buffer };
-  responder = record { end = ends.fresh Responder 3 4 bookTwo 512 513 nonceTwo .end; sent = buffer; got = buffer };
+  initiator = record { end = fresh.fresh Initiator 3 4 bookOne 256 257 nonceOne .end; sent = buffer; got = buffer };
+  responder = record { end = fresh.fresh Responder 3 4 bookTwo 512 513 nonceTwo .end; sent = buffer; got = buffer };
   fromInitiator = [];
   fromResponder = [];
 }
@@ -126,14 +129,14 @@ unfolding start bookOne bookTwo firstIdentity secondIdentity nonceOne nonceTwo b
     identities.quickData identities.portZero identities.lawful identities.identity
     payloads.typeWrong payloads.lengthOut payloads.hashCode payloads.nonceCode payloads.bodyCode payloads.bodyOf payloads.payloadCode payloads.restCode
     message.first message.chain message.reading message.counted message.message message.walk message.payloadAt
-    parts.skip parts.parts parts.firstItem parts.afterItem parts.setEnd parts.firstSet parts.afterSet parts.numbered parts.set parts.setCount parts.setNumbered parts.proposal parts.proposalCount parts.proposalNumber parts.protocol parts.spi parts.transformCount parts.transform parts.transformNumbered parts.transformNumber parts.transformId parts.attributesOf
+    parts.skip parts.parts parts.firstItem parts.afterItem parts.setEnd parts.firstSet parts.afterSet parts.numbered parts.set parts.setCount parts.setNumbered parts.proposal parts.proposalCount fields.proposalNumber fields.protocol fields.spi fields.transformCount parts.transform parts.transformNumbered fields.transformNumber fields.transformId fields.attributesOf
     books.quickStart books.quickCount books.bookSize books.mainSeconds books.quickAt books.quickProtocols books.quickMode books.quickSeconds books.mainLineLawful books.quickLineLawful books.mainLinesLawful books.quickLinesLawful books.bookInFront
     suits.present suits.valueIs suits.lifeWithin suits.nothingSurplus suits.quickId suits.quickIntegrity suits.quickSuits suits.transformSuits suits.lowestFrom suits.lowest suits.protocolsAlone suits.protocolsBoth suits.protocolsSuit suits.setSuits
     choices.lineCount choices.lineFrom choices.firstLine choices.numberOf choices.transformsOf choices.chosen choices.setFrom choices.chooseFrom choices.bodyAt
     replies.ownSpi replies.fields replies.proposalOf replies.proposalReply replies.setReply replies.saOf
     messages.bookOf messages.nonceOf messages.fixed messages.integrity messages.attributes messages.transformOne messages.lineProposal messages.lineSet messages.nextSet messages.lineSets messages.lines messages.offerOf messages.hash messages.padding messages.padded messages.header messages.messageOf messages.nonceAndIdentities messages.longer messages.proposalsOf messages.messageOne messages.messageTwo messages.messageThree
-    checks.kindIs checks.shape checks.isLonger checks.alike checks.cookiesWrong checks.isIdle checks.isInitiator checks.quickCode checks.readCode checks.countOf checks.shapeOf checks.proposalTaken checks.setTaken checks.repliedSet checks.offeredSet checks.identitiesSame checks.takenCode checks.spisOf checks.transformsIn checks.spiFor checks.ownSpis checks.agreedTwo
-    ends.freshCode ends.idle ends.ownOf ends.fresh ends.small ends.kept ends.isGivenUp ends.identitiesWrong ends.beginCode ends.begun ends.tickCode ends.withState ends.oneMore ends.isOpen ends.ticked ends.deliveryCode ends.identityAt ends.opened ends.atInitiator ends.halfway ends.answered ends.atResponder ends.delivered
+    shapes.kindIs shapes.shape shapes.isLonger shapes.alike checks.cookiesWrong fresh.isIdle fresh.isInitiator checks.quickCode checks.readCode shapes.countOf shapes.shapeOf checks.proposalTaken checks.setTaken checks.repliedSet checks.offeredSet checks.identitiesSame checks.takenCode checks.spisOf checks.transformsIn checks.spiFor checks.ownSpis checks.agreedTwo
+    fresh.freshCode fresh.idle fresh.ownOf fresh.fresh ends.small ends.kept fresh.isGivenUp ends.identitiesWrong ends.beginCode ends.begun ends.tickCode ends.withState ends.oneMore ends.isOpen ends.ticked ends.deliveryCode ends.identityAt ends.opened ends.atInitiator ends.halfway ends.answered ends.atResponder ends.delivered
 computed = record {
   starts-fresh = record {
     icookie = 3;

@@ -11,12 +11,12 @@ use Rattle.wire.specs.Wire.{paste}
 use Rattle.wire.proofs.Tests.{both, neither, by-test, passed}
 use Rattle.wire.proofs.Laws.{paste-inside}
 use Rattle.book.specs.Book.{mainCount, quickStart, quickCount, bookSize, bookInFront, mainLinesLawful, quickLinesLawful}
-use Rattle.quick.specs.Messages.{bookOf, nonceOf}
-use Rattle.quick.specs.Ends.{freshCode, idle, ownOf, fresh}
-use Rattle.checks.specs.declared.Role.{Role}
-use Rattle.checks.specs.declared.State.the-variants.{Idle}
-use Rattle.quick.specs.declared.Made.{Made}
-use Rattle.quick.specs.declared.End.{End}
+use Rattle.writing.specs.Messages.{bookOf, nonceOf}
+use Rattle.ends.specs.Fresh.{freshCode, idle, ownOf, fresh}
+use Rattle.ends.specs.declared.Role.{Role}
+use Rattle.ends.specs.declared.State.the-variants.{Idle}
+use Rattle.ends.specs.declared.Made.{Made}
+use Rattle.ends.specs.declared.End.{End}
 use Rattle.quick.proofs.Shapes.{Fit}
 use Rattle.exchange.specs.Exchange.{FreshEnd}
 

@@ -18,15 +18,18 @@ use Rattle.policy.specs.declared.LineNumber.{LineNumber}
 use Rattle.policy.specs.declared.Transforms.{Transforms}
 use Rattle.policy.specs.declared.Choice.the-variants.{Chosen}
 use Rattle.message.specs.Message.{message}
-use Rattle.quick.specs.Messages.{bookOf, lines, offerOf, messageOne, messageTwo, messageThree}
-use Rattle.checks.specs.Checks.{isLonger, alike, isIdle, isInitiator, readCode, shapeOf, takenCode}
-use Rattle.quick.specs.Ends.{After, small, isGivenUp, nothing, repeating, withState, oneMore, opened, atInitiator, halfway, answered, atResponder}
-use Rattle.checks.proofs.Laws.{alike-same, alike-sym, alike-trans, alike-says}
-use Rattle.checks.specs.declared.Role.{Role}
-use Rattle.checks.specs.declared.State.{State}
-use Rattle.checks.specs.declared.State.the-variants.{Idle, Sent, Half, Open, GivenUp}
-use Rattle.checks.specs.declared.Own.{Own}
-use Rattle.quick.specs.declared.Progress.{Progress}
+use Rattle.writing.specs.Messages.{bookOf, lines, offerOf, messageOne, messageTwo, messageThree}
+use Rattle.ends.specs.Fresh.{isIdle, isInitiator}
+use Rattle.shapes.specs.Shapes.{isLonger, alike, shapeOf}
+use Rattle.checks.specs.Checks.{readCode, takenCode}
+use Rattle.ends.specs.Fresh.{isGivenUp}
+use Rattle.quick.specs.Ends.{After, small, nothing, repeating, withState, oneMore, opened, atInitiator, halfway, answered, atResponder}
+use Rattle.shapes.proofs.Laws.{alike-same, alike-sym, alike-trans, alike-says}
+use Rattle.ends.specs.declared.Role.{Role}
+use Rattle.ends.specs.declared.State.{State}
+use Rattle.ends.specs.declared.State.the-variants.{Idle, Sent, Half, Open, GivenUp}
+use Rattle.ends.specs.declared.Own.{Own}
+use Rattle.ends.specs.declared.Progress.{Progress}
 use Rattle.quick.specs.declared.StepAnswer.{StepAnswer}
 use Rattle.quick.specs.declared.StepAnswer.the-variants.{Send, Nothing, Refused}
 use Rattle.quick.proofs.Shapes.{payloadsWith, Longer, Third, replyTo}

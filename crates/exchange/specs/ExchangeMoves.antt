@@ -20,16 +20,19 @@ use Rattle.policy.specs.declared.LineNumber.{LineNumber}
 use Rattle.policy.specs.declared.Transforms.{Transforms}
 use Rattle.policy.specs.declared.Choice.{Choice}
 use Rattle.policy.specs.declared.Choice.the-variants as choices
-use Rattle.quick.specs.Messages.{bookOf, lines, messageOne}
+use Rattle.writing.specs.Messages.{bookOf, lines, messageOne}
 use Rattle.message.specs.Message.{message}
-use Rattle.checks.specs.Checks.{isLonger, alike, isIdle, isInitiator, readCode, shapeOf, takenCode}
-use Rattle.quick.specs.Ends.{After, small, kept, isGivenUp, isOpen, refusing, nothing, repeating, sending, identitiesWrong, beginCode, begun, tickCode, withState, oneMore, ticked, deliveryCode, opened, atInitiator, halfway, answered, atResponder, delivered}
-use Rattle.checks.specs.declared.Role.{Role}
-use Rattle.checks.specs.declared.Role.the-variants.{Initiator, Responder}
-use Rattle.checks.specs.declared.State.{State}
-use Rattle.checks.specs.declared.State.the-variants.{Idle, Sent, Half, Open, GivenUp}
-use Rattle.checks.specs.declared.Own.{Own}
-use Rattle.quick.specs.declared.End.{End}
+use Rattle.ends.specs.Fresh.{isIdle, isInitiator}
+use Rattle.shapes.specs.Shapes.{isLonger, alike, shapeOf}
+use Rattle.checks.specs.Checks.{readCode, takenCode}
+use Rattle.ends.specs.Fresh.{isGivenUp}
+use Rattle.quick.specs.Ends.{After, small, kept, isOpen, refusing, nothing, repeating, sending, identitiesWrong, beginCode, begun, tickCode, withState, oneMore, ticked, deliveryCode, opened, atInitiator, halfway, answered, atResponder, delivered}
+use Rattle.ends.specs.declared.Role.{Role}
+use Rattle.ends.specs.declared.Role.the-variants.{Initiator, Responder}
+use Rattle.ends.specs.declared.State.{State}
+use Rattle.ends.specs.declared.State.the-variants.{Idle, Sent, Half, Open, GivenUp}
+use Rattle.ends.specs.declared.Own.{Own}
+use Rattle.ends.specs.declared.End.{End}
 use Rattle.quick.specs.declared.StepAnswer.the-variants.{Refused}
 use Rattle.quick.proofs.Shapes.{Identities}
 use Rattle.exchange.specs.Exchange.{Party, Call, begin, deliver, tick, called, left, Heard, Allowed, stateOf, FullSize}

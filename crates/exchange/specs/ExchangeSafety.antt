@@ -14,16 +14,17 @@ use Rattle.policy.specs.Choice.{bodyAt, chooseFrom}
 use Rattle.policy.specs.declared.LineNumber.{LineNumber}
 use Rattle.policy.specs.declared.Transforms.{Transforms}
 use Rattle.policy.specs.declared.Choice.the-variants.{Chosen}
-use Rattle.quick.specs.Messages.{bookOf, nonceOf, messageThree}
-use Rattle.checks.specs.Checks.{alike, spisOf, ownSpis, agreedTwo, nonceIn, nonce}
+use Rattle.writing.specs.Messages.{bookOf, nonceOf, messageThree}
+use Rattle.shapes.specs.Shapes.{alike, nonceIn, nonce}
+use Rattle.checks.specs.Checks.{spisOf, ownSpis, agreedTwo}
 use Rattle.quick.specs.Ends.{After, kept, nothing, repeating, sending, withState, oneMore, opened, halfway}
-use Rattle.checks.proofs.Laws.{alike-same, alike-sym, alike-trans}
-use Rattle.checks.specs.declared.Role.the-variants.{Initiator, Responder}
-use Rattle.checks.specs.declared.State.{State}
-use Rattle.checks.specs.declared.State.the-variants.{Idle, Sent, Half, Open, GivenUp}
-use Rattle.checks.specs.declared.Own.{Own}
-use Rattle.checks.specs.declared.Agreed.{Agreed}
-use Rattle.quick.specs.declared.Progress.{Progress}
+use Rattle.shapes.proofs.Laws.{alike-same, alike-sym, alike-trans}
+use Rattle.ends.specs.declared.Role.the-variants.{Initiator, Responder}
+use Rattle.ends.specs.declared.State.{State}
+use Rattle.ends.specs.declared.State.the-variants.{Idle, Sent, Half, Open, GivenUp}
+use Rattle.ends.specs.declared.Own.{Own}
+use Rattle.ends.specs.declared.Agreed.{Agreed}
+use Rattle.ends.specs.declared.Progress.{Progress}
 use Rattle.quick.proofs.Shapes.{Fit, Framed, Answered, replyTo}
 use Rattle.quick.proofs.MessageLaws.{third-reads}
 use Rattle.quick.proofs.TakenLaws.{one-reads, two-reads, two-agreed}

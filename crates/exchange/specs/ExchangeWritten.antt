@@ -9,10 +9,10 @@ use Rattle.message.specs.declared.Message.the-variants.{Read}
 use Rattle.sets.specs.Parts.{setNumbered}
 use Rattle.policy.specs.Choice.{bodyAt}
 use Rattle.reply.specs.Reply.{setReply, saOf}
-use Rattle.quick.specs.Messages.{nonceOf, offerOf, hash, nonceAndIdentities, proposalsOf, messageOne, messageTwo, messageThree}
+use Rattle.writing.specs.Messages.{nonceOf, offerOf, hash, nonceAndIdentities, proposalsOf, messageOne, messageTwo, messageThree}
 use Rattle.quick.specs.Ends.{identityAt}
-use Rattle.checks.specs.declared.Own.{Own}
-use Rattle.checks.proofs.Laws.{alike-same}
+use Rattle.ends.specs.declared.Own.{Own}
+use Rattle.shapes.proofs.Laws.{alike-same}
 use Rattle.quick.proofs.Shapes.{Fit, payloadsWith, replyTo}
 use Rattle.quick.proofs.MessageLaws.{Padded, longer-padded, third-padded, third-reads}
 use Rattle.quick.proofs.TakenLaws.{one-reads, two-reads}

@@ -3,12 +3,12 @@ use Prim.Native.Nat.{ℕ, _+_, _*_}
 use mathlib.Core.List.{List}
 use mathlib.Core.Bool.{true}
 use lib.ListN.{take}
-use Rattle.checks.specs.declared.State.{State}
-use Rattle.checks.specs.declared.State.the-variants.{Idle, Sent, Half, Open, GivenUp}
+use Rattle.ends.specs.declared.State.{State}
+use Rattle.ends.specs.declared.State.the-variants.{Idle, Sent, Half, Open, GivenUp}
 use Rattle.quick.specs.declared.StepAnswer.{StepAnswer}
 use Rattle.quick.specs.declared.StepAnswer.the-variants as answers
-use Rattle.quick.specs.declared.End.{End}
-use Rattle.quick.specs.declared.Made.{Made}
+use Rattle.ends.specs.declared.End.{End}
+use Rattle.ends.specs.declared.Made.{Made}
 use Rattle.quick.specs.Ends.{After, begun, delivered}
 
 unfoldable pub stateNumber : State → ℕ

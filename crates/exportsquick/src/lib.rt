@@ -1,17 +1,17 @@
 // A whole exchange in one call for another language: two fresh ends, from begin to both open.
-use checks::Role;
-use checks::State;
-use quick::End;
+use ends::End;
+use ends::Role;
+use ends::State;
+use ends::fresh;
 use quick::StepAnswer;
 use quick::Stepped;
 use quick::begin::begin;
 use quick::deliver::deliver;
-use quick::fresh::fresh;
 use wire::front;
 ghost use mathlib.Core.Path.{_≡_};
 ghost use Prim.Native.Nat.{_+_, _*_};
-ghost use Rattle.checks.specs.declared.Role.the-variants.{Initiator, Responder};
-ghost use Rattle.quick.specs.Ends.{fresh};
+ghost use Rattle.ends.specs.declared.Role.the-variants.{Initiator, Responder};
+ghost use Rattle.ends.specs.Fresh.{fresh};
 ghost use Rattle.exportsquick.specs.Exchanges.{stateNumber, sendSize, given, exchanged};
 
 // A state's number: 0 Idle, 1 Sent, 2 Half, 3 Open, 4 GivenUp.

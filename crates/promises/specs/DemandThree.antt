@@ -5,10 +5,10 @@ use mathlib.Core.Path.{_≡_, ap, _∙_}
 use mathlib.Core.Logic.{_⊎_}
 use mathlib.Core.List.{List, [], _∷_}
 use lib.ListN.{length}
-use Rattle.quick.specs.Messages.{nonceOf}
-use Rattle.checks.specs.Checks.{nonce}
-use Rattle.checks.specs.declared.Role.the-variants.{Initiator, Responder}
-use Rattle.checks.specs.declared.State.the-variants.{Half, Open, GivenUp}
+use Rattle.writing.specs.Messages.{nonceOf}
+use Rattle.shapes.specs.Shapes.{nonce}
+use Rattle.ends.specs.declared.Role.the-variants.{Initiator, Responder}
+use Rattle.ends.specs.declared.State.the-variants.{Half, Open, GivenUp}
 use Rattle.quick.specs.declared.StepAnswer.the-variants.{Send, Refused}
 use Rattle.exchange.specs.Exchange.{begin, called, World, atFirst, atSecond, step, Fair, Run, Fresh, stateOf, sentOf, gotOf, Same, Only, Then, Beginning, beginCall, afterBegin, Suits, oneOf, twoOf, threeOf, Arrives, delivery}
 use Rattle.exchange.specs.ExchangeFresh.{fresh-fit}

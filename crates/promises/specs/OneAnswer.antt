@@ -132,28 +132,38 @@ use Rattle.policy.proofs.choose.body_at.Kinds as policy-body-at-kinds
 use Rattle.policy.proofs.choose.body_at.Reads as policy-body-at-reads
 use Rattle.reply.proofs.put_proposal.Kinds as reply-put-proposal-kinds
 use Rattle.reply.proofs.put_proposal.Reads as reply-put-proposal-reads
-use Rattle.quick.proofs.fresh.fresh.Kinds as quick-fresh-kinds
-use Rattle.quick.proofs.fresh.fresh.Reads as quick-fresh-reads
+use Rattle.ends.proofs.fresh.Kinds as ends-fresh-kinds
+use Rattle.ends.proofs.fresh.Reads as ends-fresh-reads
 use Rattle.quick.proofs.begin.begin.Kinds as quick-begin-kinds
 use Rattle.quick.proofs.begin.begin.Reads as quick-begin-reads
 use Rattle.quick.proofs.deliver.deliver.Kinds as quick-deliver-kinds
 use Rattle.quick.proofs.deliver.deliver.Reads as quick-deliver-reads
 use Rattle.quick.proofs.tick.tick.Kinds as quick-tick-kinds
 use Rattle.quick.proofs.tick.tick.Reads as quick-tick-reads
-use Rattle.checks.proofs.shape.Kinds as checks-shape-kinds
-use Rattle.checks.proofs.shape.Reads as checks-shape-reads
-use Rattle.checks.proofs.is_longer.Kinds as checks-is-longer-kinds
-use Rattle.checks.proofs.is_longer.Reads as checks-is-longer-reads
-use Rattle.checks.proofs.alike.Kinds as checks-alike-kinds
-use Rattle.checks.proofs.alike.Reads as checks-alike-reads
-use Rattle.checks.proofs.is_idle.Kinds as checks-is-idle-kinds
-use Rattle.checks.proofs.is_idle.Reads as checks-is-idle-reads
-use Rattle.checks.proofs.is_initiator.Kinds as checks-is-initiator-kinds
-use Rattle.checks.proofs.is_initiator.Reads as checks-is-initiator-reads
+use Rattle.shapes.proofs.shape.Kinds as shapes-shape-kinds
+use Rattle.shapes.proofs.shape.Reads as shapes-shape-reads
+use Rattle.shapes.proofs.is_longer.Kinds as shapes-is-longer-kinds
+use Rattle.shapes.proofs.is_longer.Reads as shapes-is-longer-reads
+use Rattle.shapes.proofs.alike.Kinds as shapes-alike-kinds
+use Rattle.shapes.proofs.alike.Reads as shapes-alike-reads
+use Rattle.ends.proofs.is_idle.Kinds as ends-is-idle-kinds
+use Rattle.ends.proofs.is_idle.Reads as ends-is-idle-reads
+use Rattle.ends.proofs.is_initiator.Kinds as ends-is-initiator-kinds
+use Rattle.ends.proofs.is_initiator.Reads as ends-is-initiator-reads
+use Rattle.ends.proofs.is_given_up.Kinds as ends-is-given-up-kinds
+use Rattle.ends.proofs.is_given_up.Reads as ends-is-given-up-reads
+use Rattle.shapes.proofs.shape_of.Kinds as shapes-shape-of-kinds
+use Rattle.shapes.proofs.shape_of.Reads as shapes-shape-of-reads
+use Rattle.writing.proofs.lines.Kinds as writing-lines-kinds
+use Rattle.writing.proofs.lines.Reads as writing-lines-reads
+use Rattle.writing.proofs.put_longer.Kinds as writing-put-longer-kinds
+use Rattle.writing.proofs.put_longer.Reads as writing-put-longer-reads
+use Rattle.writing.proofs.put_three.Kinds as writing-put-three-kinds
+use Rattle.writing.proofs.put_three.Reads as writing-put-three-reads
 use Rattle.checks.proofs.read_code.Kinds as checks-read-code-kinds
 use Rattle.checks.proofs.read_code.Reads as checks-read-code-reads
-use Rattle.checks.proofs.count_of.Kinds as checks-count-of-kinds
-use Rattle.checks.proofs.count_of.Reads as checks-count-of-reads
+use Rattle.shapes.proofs.count_of.Kinds as shapes-count-of-kinds
+use Rattle.shapes.proofs.count_of.Reads as shapes-count-of-reads
 use Rattle.checks.proofs.taken_code.Kinds as checks-taken-code-kinds
 use Rattle.checks.proofs.taken_code.Reads as checks-taken-code-reads
 use Rattle.checks.proofs.spis_of.Kinds as checks-spis-of-kinds
@@ -162,8 +172,8 @@ use Rattle.checks.proofs.own_spis.Kinds as checks-own-spis-kinds
 use Rattle.checks.proofs.own_spis.Reads as checks-own-spis-reads
 use Rattle.checks.proofs.agreed_two.Kinds as checks-agreed-two-kinds
 use Rattle.checks.proofs.agreed_two.Reads as checks-agreed-two-reads
-use Rattle.checks.proofs.nonce.Kinds as checks-nonce-kinds
-use Rattle.checks.proofs.nonce.Reads as checks-nonce-reads
+use Rattle.shapes.proofs.nonce.Kinds as shapes-nonce-kinds
+use Rattle.shapes.proofs.nonce.Reads as shapes-nonce-reads
 use Rattle.reply.proofs.put_reply.Kinds as reply-put-reply-kinds
 use Rattle.reply.proofs.put_reply.Reads as reply-put-reply-reads
 use Rattle.reply.proofs.reply.Kinds as reply-reply-kinds
@@ -393,8 +403,8 @@ policy-body-at κs arguments x y s t p q = p ∙ sym q
 pub reply-put-proposal : OneAnswer 2 reply-put-proposal-kinds.ps reply-put-proposal-kinds.r {A = ℕ × List ℕ} (λ κs x s. (x, now (s .0))) reply-put-proposal-reads.Post
 reply-put-proposal κs arguments x y s t p q = sym p ∙ q
 
-pub quick-fresh : OneAnswer 2 quick-fresh-kinds.ps quick-fresh-kinds.r (λ κs x s. x) quick-fresh-reads.Post
-quick-fresh κs arguments x y s t p q = p ∙ sym q
+pub ends-fresh : OneAnswer 2 ends-fresh-kinds.ps ends-fresh-kinds.r (λ κs x s. x) ends-fresh-reads.Post
+ends-fresh κs arguments x y s t p q = p ∙ sym q
 
 pub quick-begin : OneAnswer 5 quick-begin-kinds.ps quick-begin-kinds.r {A = Stepped × List ℕ × List ℕ} (λ κs x s. (x, now (s .1 .1 .1 .1 .0), now (s .1 .1 .1 .1 .1 .1 .0))) quick-begin-reads.Post
 quick-begin κs arguments x y s t p q = ap (λ (a : After). (a .step, a .sent, a .output)) (sym p ∙ q)
@@ -405,26 +415,41 @@ quick-deliver κs arguments x y s t p q = sym p ∙ q
 pub quick-tick : OneAnswer 3 quick-tick-kinds.ps quick-tick-kinds.r {A = Stepped × List ℕ} (λ κs x s. (x, now (s .1 .1 .1 .0))) quick-tick-reads.Post
 quick-tick κs arguments x y s t p q = ap (λ (a : After). (a .step, a .output)) (sym p ∙ q)
 
-pub checks-shape : OneAnswer 1 checks-shape-kinds.ps checks-shape-kinds.r (λ κs x s. x) checks-shape-reads.Post
-checks-shape κs arguments x y s t p q = p ∙ sym q
+pub shapes-shape : OneAnswer 1 shapes-shape-kinds.ps shapes-shape-kinds.r (λ κs x s. x) shapes-shape-reads.Post
+shapes-shape κs arguments x y s t p q = p ∙ sym q
 
-pub checks-is-longer : OneAnswer 0 checks-is-longer-kinds.ps checks-is-longer-kinds.r (λ κs x s. x) checks-is-longer-reads.Post
-checks-is-longer κs arguments x y s t p q = p ∙ sym q
+pub shapes-is-longer : OneAnswer 0 shapes-is-longer-kinds.ps shapes-is-longer-kinds.r (λ κs x s. x) shapes-is-longer-reads.Post
+shapes-is-longer κs arguments x y s t p q = p ∙ sym q
 
-pub checks-alike : OneAnswer 2 checks-alike-kinds.ps checks-alike-kinds.r (λ κs x s. x) checks-alike-reads.Post
-checks-alike κs arguments x y s t p q = p ∙ sym q
+pub shapes-alike : OneAnswer 2 shapes-alike-kinds.ps shapes-alike-kinds.r (λ κs x s. x) shapes-alike-reads.Post
+shapes-alike κs arguments x y s t p q = p ∙ sym q
 
-pub checks-is-idle : OneAnswer 0 checks-is-idle-kinds.ps checks-is-idle-kinds.r (λ κs x s. x) checks-is-idle-reads.Post
-checks-is-idle κs arguments x y s t p q = p ∙ sym q
+pub ends-is-idle : OneAnswer 0 ends-is-idle-kinds.ps ends-is-idle-kinds.r (λ κs x s. x) ends-is-idle-reads.Post
+ends-is-idle κs arguments x y s t p q = p ∙ sym q
 
-pub checks-is-initiator : OneAnswer 0 checks-is-initiator-kinds.ps checks-is-initiator-kinds.r (λ κs x s. x) checks-is-initiator-reads.Post
-checks-is-initiator κs arguments x y s t p q = p ∙ sym q
+pub ends-is-initiator : OneAnswer 0 ends-is-initiator-kinds.ps ends-is-initiator-kinds.r (λ κs x s. x) ends-is-initiator-reads.Post
+ends-is-initiator κs arguments x y s t p q = p ∙ sym q
+
+pub ends-is-given-up : OneAnswer 0 ends-is-given-up-kinds.ps ends-is-given-up-kinds.r (λ κs x s. x) ends-is-given-up-reads.Post
+ends-is-given-up κs arguments x y s t p q = p ∙ sym q
+
+pub shapes-shape-of : OneAnswer 1 shapes-shape-of-kinds.ps shapes-shape-of-kinds.r (λ κs x s. x) shapes-shape-of-reads.Post
+shapes-shape-of κs arguments x y s t p q = p ∙ sym q
+
+pub writing-lines : OneAnswer 1 writing-lines-kinds.ps writing-lines-kinds.r (λ κs x s. x) writing-lines-reads.Post
+writing-lines κs arguments x y s t p q = p ∙ sym q
+
+pub writing-put-longer : OneAnswer 4 writing-put-longer-kinds.ps writing-put-longer-kinds.r {A = ℕ × List ℕ} (λ κs x s. (x, now (s .0))) writing-put-longer-reads.Post
+writing-put-longer κs arguments x y s t p q = sym p ∙ q
+
+pub writing-put-three : OneAnswer 1 writing-put-three-kinds.ps writing-put-three-kinds.r {A = ℕ × List ℕ} (λ κs x s. (x, now (s .0))) writing-put-three-reads.Post
+writing-put-three κs arguments x y s t p q = sym p ∙ q
 
 pub checks-read-code : OneAnswer 1 checks-read-code-kinds.ps checks-read-code-kinds.r (λ κs x s. x) checks-read-code-reads.Post
 checks-read-code κs arguments x y s t p q = p ∙ sym q
 
-pub checks-count-of : OneAnswer 0 checks-count-of-kinds.ps checks-count-of-kinds.r (λ κs x s. x) checks-count-of-reads.Post
-checks-count-of κs arguments x y s t p q = p ∙ sym q
+pub shapes-count-of : OneAnswer 0 shapes-count-of-kinds.ps shapes-count-of-kinds.r (λ κs x s. x) shapes-count-of-reads.Post
+shapes-count-of κs arguments x y s t p q = p ∙ sym q
 
 pub checks-taken-code : OneAnswer 2 checks-taken-code-kinds.ps checks-taken-code-kinds.r (λ κs x s. x) checks-taken-code-reads.Post
 checks-taken-code κs arguments x y s t p q = p ∙ sym q
@@ -438,8 +463,8 @@ checks-own-spis κs arguments x y s t p q = p ∙ sym q
 pub checks-agreed-two : OneAnswer 2 checks-agreed-two-kinds.ps checks-agreed-two-kinds.r (λ κs x s. x) checks-agreed-two-reads.Post
 checks-agreed-two κs arguments x y s t p q = p ∙ sym q
 
-pub checks-nonce : OneAnswer 1 checks-nonce-kinds.ps checks-nonce-kinds.r (λ κs x s. now x) checks-nonce-reads.Post
-checks-nonce κs arguments x y s t p q = p ∙ sym q
+pub shapes-nonce : OneAnswer 1 shapes-nonce-kinds.ps shapes-nonce-kinds.r (λ κs x s. now x) shapes-nonce-reads.Post
+shapes-nonce κs arguments x y s t p q = p ∙ sym q
 
 pub reply-put-reply : OneAnswer 2 reply-put-reply-kinds.ps reply-put-reply-kinds.r {A = ℕ × List ℕ} (λ κs x s. (x, now (s .0))) reply-put-reply-reads.Post
 reply-put-reply κs arguments x y s t p q = sym p ∙ q

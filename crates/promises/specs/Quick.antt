@@ -11,11 +11,13 @@ use Rattle.wire.specs.Answer.{Answer}
 use Rattle.wire.proofs.Tests.{never, by-test}
 use Rattle.policy.specs.declared.Choice.{Choice}
 use Rattle.policy.specs.declared.Choice.the-variants as choices
-use Rattle.checks.specs.Checks.{isLonger, alike, isInitiator, shapeOf, takenCode}
+use Rattle.ends.specs.Fresh.{isInitiator}
+use Rattle.shapes.specs.Shapes.{isLonger, alike, shapeOf}
+use Rattle.checks.specs.Checks.{takenCode}
 use Rattle.quick.specs.Ends.{After, small, kept, refusing, beginCode, begun, tickCode, isOpen, ticked, deliveryCode, opened, atInitiator, halfway, answered, atResponder, delivered, answer}
-use Rattle.quick.specs.declared.End.{End}
-use Rattle.checks.specs.declared.State.{State}
-use Rattle.checks.specs.declared.State.the-variants.{Idle, Sent, Half, Open, GivenUp}
+use Rattle.ends.specs.declared.End.{End}
+use Rattle.ends.specs.declared.State.{State}
+use Rattle.ends.specs.declared.State.the-variants.{Idle, Sent, Half, Open, GivenUp}
 use Rattle.quick.specs.declared.StepAnswer.{StepAnswer}
 use Rattle.quick.specs.declared.StepAnswer.the-variants.{Send, Nothing, Refused}
 use Rattle.exchange.specs.Exchange.{World, Run, Fresh}

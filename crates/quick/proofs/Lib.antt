@@ -2,5 +2,4 @@ pub mod Shapes
 pub mod MessageLaws
 pub mod OfferLaws
 pub mod TakenLaws
-mod WritingWays
-mod EndWays
+mod Ways

@@ -26,12 +26,14 @@ use Rattle.message.specs.declared.Payload.{Payload}
 use Rattle.message.specs.declared.Message.the-variants.{Read}
 use Rattle.policy.specs.Choice.{bodyAt}
 use Rattle.reply.specs.Reply.{saOf}
-use Rattle.quick.specs.Messages.{nonceOf, hash, padding, padded, header, messageOf, nonceAndIdentities, longer, messageThree}
-use Rattle.checks.specs.Checks.{alike, kindIs, shape, countOf, shapeOf, isLonger, nonceRead, nonceIn, cookiesWrong, isIdle, isInitiator, quickCode, readCode}
+use Rattle.writing.specs.Messages.{nonceOf, hash, padding, padded, header, messageOf, nonceAndIdentities, longer, messageThree}
+use Rattle.ends.specs.Fresh.{isIdle, isInitiator}
+use Rattle.shapes.specs.Shapes.{alike, kindIs, shape, countOf, shapeOf, isLonger, nonceRead, nonceIn}
+use Rattle.checks.specs.Checks.{cookiesWrong, quickCode, readCode}
 use Rattle.quick.specs.Ends.{identityAt}
-use Rattle.checks.specs.declared.Own.{Own}
-use Rattle.checks.specs.declared.State.{State}
-use Rattle.checks.proofs.Laws.{Alike, alike-says}
+use Rattle.ends.specs.declared.Own.{Own}
+use Rattle.ends.specs.declared.State.{State}
+use Rattle.shapes.proofs.Laws.{Alike, alike-says}
 use Rattle.quick.proofs.Shapes.{Fit, payloadsWith, saBody, Framed, Longer, Identities, Third}
 
 -- ---- one payload

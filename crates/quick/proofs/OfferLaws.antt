@@ -26,9 +26,9 @@ use Rattle.sets.proofs.Places.{proposals-count, proposals-place}
 use Rattle.book.specs.Book.{quickProtocols, quickMode, quickSeconds}
 use Rattle.suits.specs.Suits.{quickId}
 use Rattle.reply.specs.Reply.{ownSpi, fields, proposalOf}
-use Rattle.quick.specs.Messages.{bookOf, fixed, integrity, attributes, transformOne, lineProposal, lineSet, nextSet, lineSets, lines, offerOf}
+use Rattle.writing.specs.Messages.{bookOf, fixed, integrity, attributes, transformOne, lineProposal, lineSet, nextSet, lineSets, lines, offerOf}
 use Rattle.quick.proofs.Shapes.{saBody, Fit}
-use Rattle.checks.specs.declared.Own.{Own}
+use Rattle.ends.specs.declared.Own.{Own}
 
 -- ---- the transform of a line
 

@@ -14,10 +14,10 @@ use Rattle.message.specs.Message.{message}
 use Rattle.message.specs.declared.Message.the-variants.{Read}
 use Rattle.book.specs.Book.{bookInFront, bookSize}
 use Rattle.policy.specs.Choice.{bodyAt, chooseFrom}
-use Rattle.quick.specs.Messages.{bookOf, nonceOf, lines, longer, messageOne, messageTwo}
-use Rattle.checks.specs.Checks.{shapeOf, nonceIn, alike}
+use Rattle.writing.specs.Messages.{bookOf, nonceOf, lines, longer, messageOne, messageTwo}
+use Rattle.shapes.specs.Shapes.{shapeOf, nonceIn, alike}
 use Rattle.quick.specs.Ends.{identityAt}
-use Rattle.checks.specs.declared.Own.{Own}
+use Rattle.ends.specs.declared.Own.{Own}
 use Rattle.sets.specs.Parts.{setNumbered}
 use Rattle.fields.specs.declared.ProposalNumber.{ProposalNumber}
 use Rattle.policy.specs.declared.LineNumber.{LineNumber}

@@ -31,11 +31,12 @@ use Rattle.policy.specs.declared.Choice.the-variants.{Chosen}
 use Rattle.policy.proofs.Laws.{Choosing, fourteen, chose, choosing, Suits, suits-says}
 use Rattle.policy.proofs.SuitLaws.{Known, isakmp, ah-of, esp-of, known-of, chosenIn, taken, shape}
 use Rattle.reply.proofs.ReplyLaws.{Repeats, reply-repeats, reply-short}
-use Rattle.quick.specs.Messages.{bookOf, offerOf, proposalsOf, longer, messageOne, messageTwo, lines}
-use Rattle.checks.specs.Checks.{alike, shapeOf, proposalTaken, setTaken, repliedSet, offeredSet, identitiesSame, takenCode, spisOf, transformsIn, spiFor, ownSpis, agreedTwo}
+use Rattle.writing.specs.Messages.{bookOf, offerOf, proposalsOf, longer, messageOne, messageTwo, lines}
+use Rattle.shapes.specs.Shapes.{alike, shapeOf}
+use Rattle.checks.specs.Checks.{proposalTaken, setTaken, repliedSet, offeredSet, identitiesSame, takenCode, spisOf, transformsIn, spiFor, ownSpis, agreedTwo}
 use Rattle.quick.specs.Ends.{identityAt}
-use Rattle.checks.specs.declared.Own.{Own}
-use Rattle.checks.proofs.Laws.{alike-same}
+use Rattle.ends.specs.declared.Own.{Own}
+use Rattle.shapes.proofs.Laws.{alike-same}
 use Rattle.quick.proofs.Shapes.{payloadsWith, saBody, Longer, Answered, replyTo, Fit, Identities}
 use Rattle.quick.proofs.MessageLaws.{longer-reads}
 use Rattle.quick.proofs.OfferLaws.{offer-reads, offer-short, offer-count, offer-transform}

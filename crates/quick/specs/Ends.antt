@@ -2,8 +2,8 @@
 use Prim.Native.Nat.{ℕ, min, _+_}
 use mathlib.Core.List.{List, [], _∷_}
 use mathlib.Core.Bool.{Bool, true, false, not, _||_, _&&_}
-use lib.ListN.{length, take, replicate}
-use lib.Dec.{ltb, leb, eqb}
+use lib.ListN.{length, take}
+use lib.Dec.{ltb, eqb}
 use Rattle.wire.specs.Wire.{numberAt, paste}
 use Rattle.wire.specs.Tests.{if_then_else_}
 use Rattle.wire.specs.Answer.{Answer, done, refused}
@@ -11,69 +11,22 @@ use Rattle.identity.specs.Identity.{identity}
 use Rattle.message.specs.Message.{message}
 use Rattle.sets.specs.Parts.{setNumbered}
 use Rattle.fields.specs.declared.ProposalNumber.{ProposalNumber}
-use Rattle.book.specs.Book.{bookInFront, bookSize}
 use Rattle.policy.specs.Choice.{bodyAt, chooseFrom}
 use Rattle.policy.specs.declared.Transforms.{Transforms}
-use Rattle.policy.specs.declared.Transforms.the-variants.{One}
 use Rattle.policy.specs.declared.Choice.{Choice}
 use Rattle.policy.specs.declared.Choice.the-variants as choices
-use Rattle.quick.specs.Messages.{bookOf, lines, messageOne, messageTwo, messageThree}
-use Rattle.checks.specs.Checks.{isLonger, alike, isIdle, isInitiator, readCode, shapeOf, takenCode, spisOf, ownSpis, agreedTwo}
-use Rattle.checks.specs.declared.Role.{Role}
-use Rattle.checks.specs.declared.Role.the-variants.{Initiator, Responder}
-use Rattle.checks.specs.declared.State.{State}
-use Rattle.checks.specs.declared.State.the-variants.{Idle, Sent, Half, Open, GivenUp}
-use Rattle.checks.specs.declared.Own.{Own}
-use Rattle.checks.specs.declared.Spis.the-variants.{Alone}
-use Rattle.checks.specs.declared.Agreed.{Agreed}
-use Rattle.quick.specs.declared.Progress.{Progress}
-use Rattle.quick.specs.declared.End.{End}
-use Rattle.quick.specs.declared.Made.{Made}
+use Rattle.writing.specs.Messages.{bookOf, lines, messageOne, messageTwo, messageThree}
+use Rattle.ends.specs.Fresh.{isIdle, isInitiator, isGivenUp}
+use Rattle.shapes.specs.Shapes.{isLonger, alike, shapeOf}
+use Rattle.checks.specs.Checks.{readCode, takenCode, spisOf, ownSpis, agreedTwo}
+use Rattle.ends.specs.declared.Role.the-variants.{Initiator, Responder}
+use Rattle.ends.specs.declared.State.{State}
+use Rattle.ends.specs.declared.State.the-variants.{Idle, Sent, Half, Open, GivenUp}
+use Rattle.ends.specs.declared.Progress.{Progress}
+use Rattle.ends.specs.declared.End.{End}
 use Rattle.quick.specs.declared.StepAnswer.{StepAnswer}
 use Rattle.quick.specs.declared.StepAnswer.the-variants.{Send, Nothing, Refused}
 use Rattle.quick.specs.declared.Stepped.{Stepped}
-
--- ---- a fresh end
-
--- "given cookies (zero: 4), book, its AH and ESP SPIs (11), its nonce (16), in that order"
-unfoldable pub freshCode : ℕ → ℕ → List ℕ → ℕ → ℕ → List ℕ → ℕ
-freshCode icookie rcookie book ah esp nonce =
-    if eqb icookie 0 || eqb rcookie 0 then 4
-    else if not (bookInFront book && eqb (bookSize book) (length book)) then 8193
-    else if ltb ah 256 || ltb esp 256 then 11
-    else if not (leb 8 (length nonce) && leb (length nonce) 256) then 16
-    else 0
-
--- nothing is agreed, nothing was sent
-unfoldable pub idle : Progress
-idle = record {
-  state = Idle;
-  sends = 0;
-  id = 0;
-  sentsize = 0;
-  gotsize = 0;
-  agreed = record { set = record { 0 = 0 }; transforms = One (record { 0 = 0 }); initiator = Alone 0; responder = Alone 0 };
-}
-
-unfoldable pub ownOf : Role → ℕ → ℕ → List ℕ → ℕ → ℕ → List ℕ → Own
-ownOf role icookie rcookie book ah esp nonce = record {
-  role = role;
-  icookie = icookie;
-  rcookie = rcookie;
-  ah = ah;
-  esp = esp;
-  booksize = length book;
-  book = paste (replicate 82 0) 0 book;
-  noncesize = length nonce;
-  nonce = paste (replicate 256 0) 0 nonce;
-}
-
--- a refusal comes with an end that holds nothing
-unfoldable pub fresh : Role → ℕ → ℕ → List ℕ → ℕ → ℕ → List ℕ → Made
-fresh role icookie rcookie book ah esp nonce =
-    if eqb (freshCode icookie rcookie book ah esp nonce) 0
-    then record { number = 0; end = record { own = ownOf role icookie rcookie book ah esp nonce; progress = idle } }
-    else record { number = freshCode icookie rcookie book ah esp nonce; end = record { own = ownOf role 0 0 [] 0 0 []; progress = idle } }
 
 -- ---- what a call leaves
 
@@ -90,13 +43,6 @@ small sent got output = ltb (length sent) 2048 || ltb (length got) 2048 || ltb (
 -- the message that a kept buffer holds; no message is longer than 2,048 bytes
 unfoldable pub kept : ℕ → List ℕ → List ℕ
 kept size buffer = take (min size 2048) buffer
-
-unfoldable pub isGivenUp : State → Bool
-isGivenUp GivenUp = true
-isGivenUp Idle = false
-isGivenUp Sent = false
-isGivenUp Half = false
-isGivenUp Open = false
 
 module _ (end : End) (sent got output : List ℕ) where
   abbrev pub refusing : ℕ → After

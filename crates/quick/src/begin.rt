@@ -1,17 +1,17 @@
 // Begin: an Idle initiator offers one set for each quick line.
-use crate::End;
-use crate::Progress;
-use crate::Proposals;
 use crate::StepAnswer;
 use crate::Stepped;
-use crate::tick::is_given_up;
 use crate::tick::small;
-use crate::writing::lines;
-use crate::writing::put_longer;
-use checks::State;
-use checks::is_idle;
-use checks::is_initiator;
+use ends::End;
+use ends::Progress;
+use ends::State;
+use ends::is_given_up;
+use ends::is_idle;
+use ends::is_initiator;
 use wire::front;
+use writing::Proposals;
+use writing::lines;
+use writing::put_longer;
 ghost use mathlib.Core.Path.{_≡_};
 ghost use Rattle.quick.specs.Ends.{After, identitiesWrong, beginCode, begun};
 

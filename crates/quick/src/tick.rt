@@ -1,15 +1,16 @@
 // A tick: an end that waits sends its kept message again, up to four sends.
-use crate::End;
-use crate::Progress;
 use crate::StepAnswer;
 use crate::Stepped;
-use checks::State;
-use checks::is_idle;
+use ends::End;
+use ends::Progress;
+use ends::State;
+use ends::is_given_up;
+use ends::is_idle;
 use wire::front;
 use wire::put_bytes;
 ghost use mathlib.Core.Path.{_≡_};
 ghost use Prim.Native.Nat.{min, _<_};
-ghost use Rattle.quick.specs.Ends.{After, small, kept, isGivenUp, tickCode, withState, oneMore, isOpen, ticked};
+ghost use Rattle.quick.specs.Ends.{After, small, kept, tickCode, withState, oneMore, isOpen, ticked};
 
 // Whether a lent buffer is under 2,048 bytes.
 pub(crate) fn small(sent: &[u8], got: &[u8], output: &[u8]) -> bool
@@ -30,18 +31,6 @@ pub(crate) fn kept(size: u16, buffer: &[u8]) -> &[u8]
     ensures { λ r. ⌜ now r ≡ kept size (now (buffer .entry)) ⌝ }
 {
     front(buffer, kept_size(size) as usize)
-}
-
-pub(crate) fn is_given_up(state: State) -> bool
-    ensures { λ r. ⌜ r ≡ isGivenUp state ⌝ }
-{
-    match state {
-        State::GivenUp => true,
-        State::Idle => false,
-        State::Sent => false,
-        State::Half => false,
-        State::Open => false,
-    }
 }
 
 fn is_open(state: State) -> bool

@@ -1,4 +1,4 @@
-use Rattle.checks.proofs.ReadingWays.{eight-read, none-read}
+use Rattle.checks.proofs.Ways.{eight-read, none-read}
 use borrow.Author.Needs.{needs}
 use Rattle.checks.proofs.be64.Statement.{statement}
 use Rattle.checks.proofs.be64.Tie as tie

@@ -1,4 +1,4 @@
-use Rattle.checks.proofs.ReadingWays.{own-alone, own-both}
+use Rattle.checks.proofs.Ways.{own-alone, own-both}
 use borrow.Author.Needs.{needs}
 use Rattle.checks.proofs.own_spis.Statement.{statement}
 use Rattle.checks.proofs.own_spis.Tie as tie

@@ -1,4 +1,4 @@
-use Rattle.checks.proofs.ReadingWays.{quick-exchange, quick-flags, quick-begins, quick-cookies, quick-id, quick-shape, quick-long, quick-passed}
+use Rattle.checks.proofs.Ways.{quick-exchange, quick-flags, quick-begins, quick-cookies, quick-id, quick-shape, quick-long, quick-passed}
 use borrow.Author.Needs.{needs}
 use Rattle.checks.proofs.quick_code.Statement.{statement}
 use Rattle.checks.proofs.quick_code.Tie as tie

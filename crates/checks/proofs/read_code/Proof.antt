@@ -1,4 +1,4 @@
-use Rattle.checks.proofs.ReadingWays.{read-refused, read-checked}
+use Rattle.checks.proofs.Ways.{read-refused, read-checked}
 use borrow.Author.Needs.{needs}
 use Rattle.checks.proofs.read_code.Statement.{statement}
 use Rattle.checks.proofs.read_code.Tie as tie

@@ -1,4 +1,4 @@
-use Rattle.checks.proofs.ReadingWays.{spis-alone, spis-both}
+use Rattle.checks.proofs.Ways.{spis-alone, spis-both}
 use borrow.Author.Needs.{needs}
 use Rattle.checks.proofs.spis_of.Statement.{statement}
 use Rattle.checks.proofs.spis_of.Tie as tie

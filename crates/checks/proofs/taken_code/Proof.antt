@@ -1,4 +1,4 @@
-use Rattle.checks.proofs.ReadingWays.{taken-other, taken-identities, taken-passed}
+use Rattle.checks.proofs.Ways.{taken-other, taken-identities, taken-passed}
 use borrow.Author.Needs.{needs}
 use Rattle.checks.proofs.taken_code.Statement.{statement}
 use Rattle.checks.proofs.taken_code.Tie as tie

@@ -1,4 +1,4 @@
-use Rattle.checks.proofs.ReadingWays.{transforms-one, transforms-two}
+use Rattle.checks.proofs.Ways.{transforms-one, transforms-two}
 use borrow.Author.Needs.{needs}
 use Rattle.checks.proofs.transforms_in.Statement.{statement}
 use Rattle.checks.proofs.transforms_in.Tie as tie

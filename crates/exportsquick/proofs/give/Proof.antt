@@ -4,7 +4,7 @@ use mathlib.Core.List.{List}
 use mathlib.Core.Bool.{true}
 use lib.ListN.{take}
 use borrow.Author.Needs.{needs}
-use Rattle.quick.specs.declared.End.{End}
+use Rattle.ends.specs.declared.End.{End}
 use Rattle.quick.specs.declared.StepAnswer.{StepAnswer}
 use Rattle.quick.specs.Ends.{After, delivered}
 use Rattle.exportsquick.specs.Exchanges.{sendSize, given}

@@ -1,8 +1,8 @@
 -- Each arm knows the state.
 use mathlib.Core.Path.{_≡_}
 use borrow.Author.Needs.{needs}
-use Rattle.checks.specs.declared.State.{State}
-use Rattle.checks.specs.declared.State.the-variants.{Idle, Sent, Half, Open, GivenUp}
+use Rattle.ends.specs.declared.State.{State}
+use Rattle.ends.specs.declared.State.the-variants.{Idle, Sent, Half, Open, GivenUp}
 use Rattle.exportsquick.specs.Exchanges.{stateNumber}
 use Rattle.exportsquick.proofs.state_number.Statement.{statement}
 use Rattle.exportsquick.proofs.state_number.Tie as tie

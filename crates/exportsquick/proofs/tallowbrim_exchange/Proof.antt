@@ -3,8 +3,8 @@ use Prim.Native.Nat.{ℕ, _+_, _*_}
 use mathlib.Core.Path.{_≡_, _∙_}
 use mathlib.Core.List.{List}
 use borrow.Author.Needs.{needs}
-use Rattle.quick.specs.declared.End.{End}
-use Rattle.quick.specs.declared.Made.{Made}
+use Rattle.ends.specs.declared.End.{End}
+use Rattle.ends.specs.declared.Made.{Made}
 use Rattle.quick.specs.declared.Stepped.{Stepped}
 use Rattle.quick.specs.Ends.{begun}
 use Rattle.exportsquick.specs.Exchanges.{stateNumber, given, exchangeLeaves, next, thirdGiven, secondGiven, firstGiven, exchanged}

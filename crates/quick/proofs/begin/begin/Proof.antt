@@ -1,4 +1,4 @@
-use Rattle.quick.proofs.EndWays.{begin-refused, begin-sent, none-fits, first-fits, second-fits}
+use Rattle.quick.proofs.Ways.{begin-refused, begin-sent}
 use borrow.Author.Needs.{needs}
 use Rattle.quick.proofs.begin.begin.Statement.{statement}
 use Rattle.quick.proofs.begin.begin.Tie as tie
@@ -13,8 +13,8 @@ begin-spec =
     (λ c. search needs)
     (λ c. search begin-refused)
     (λ c κs. search needs)
-    (λ c κs. (search none-fits, search first-fits, search second-fits))
-    (λ c κs. (search none-fits, search first-fits, search second-fits))
+    (λ c κs. search needs)
+    (λ c κs. search needs)
     (λ c. search needs)
     (λ c. search needs)
     (λ c. search begin-sent))

@@ -1,4 +1,4 @@
-use Rattle.quick.proofs.EndWays.{begin-small, begin-up, begin-other, begin-id, begin-identities, begin-lines, begin-passed}
+use Rattle.quick.proofs.Ways.{begin-small, begin-up, begin-other, begin-id, begin-identities, begin-lines, begin-passed}
 use borrow.Author.Needs.{needs}
 use Rattle.quick.proofs.begin.begin_code.Statement.{statement}
 use Rattle.quick.proofs.begin.begin_code.Tie as tie

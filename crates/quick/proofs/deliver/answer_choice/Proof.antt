@@ -1,4 +1,4 @@
-use Rattle.quick.proofs.EndWays.{choice-refused, choice-made}
+use Rattle.quick.proofs.Ways.{choice-refused, choice-made}
 use borrow.Author.Needs.{needs}
 use Rattle.quick.proofs.deliver.answer_choice.Statement.{statement}
 use Rattle.quick.proofs.deliver.answer_choice.Tie as tie

@@ -1,4 +1,4 @@
-use Rattle.quick.proofs.EndWays.{one-other, one-answered}
+use Rattle.quick.proofs.Ways.{one-other, one-answered}
 use borrow.Author.Needs.{needs}
 use Rattle.quick.proofs.deliver.answer_one.Statement.{statement}
 use Rattle.quick.proofs.deliver.answer_one.Tie as tie

@@ -1,4 +1,4 @@
-use Rattle.quick.proofs.EndWays.{half-again, half-opens, half-refused}
+use Rattle.quick.proofs.Ways.{half-again, half-opens, half-refused}
 use borrow.Author.Needs.{needs}
 use Rattle.quick.proofs.deliver.at_half.Statement.{statement}
 use Rattle.quick.proofs.deliver.at_half.Tie as tie

@@ -1,4 +1,4 @@
-use Rattle.quick.proofs.EndWays.{initiator-again, initiator-sent, initiator-open, initiator-idle, initiator-half, initiator-up}
+use Rattle.quick.proofs.Ways.{initiator-again, initiator-sent, initiator-open, initiator-idle, initiator-half, initiator-up}
 use borrow.Author.Needs.{needs}
 use Rattle.quick.proofs.deliver.at_initiator.Statement.{statement}
 use Rattle.quick.proofs.deliver.at_initiator.Tie as tie

@@ -1,4 +1,4 @@
-use Rattle.quick.proofs.EndWays.{responder-nothing, responder-idle, responder-half, responder-open, responder-sent, responder-up}
+use Rattle.quick.proofs.Ways.{responder-nothing, responder-idle, responder-half, responder-open, responder-sent, responder-up}
 use borrow.Author.Needs.{needs}
 use Rattle.quick.proofs.deliver.at_responder.Statement.{statement}
 use Rattle.quick.proofs.deliver.at_responder.Tie as tie

@@ -1,4 +1,4 @@
-use Rattle.quick.proofs.EndWays.{halfway-two, set-within}
+use Rattle.quick.proofs.Ways.{halfway-two, set-within}
 use borrow.Author.Needs.{needs}
 use Rattle.quick.proofs.deliver.be_half.Statement.{statement}
 use Rattle.quick.proofs.deliver.be_half.Tie as tie

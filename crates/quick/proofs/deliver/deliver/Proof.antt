@@ -1,4 +1,4 @@
-use Rattle.quick.proofs.EndWays.{deliver-early, deliver-refused, deliver-initiator, deliver-responder, delivery-fits, shape-found}
+use Rattle.quick.proofs.Ways.{deliver-early, deliver-refused, deliver-initiator, deliver-responder, delivery-fits, shape-found}
 use borrow.Author.Needs.{needs}
 use Rattle.quick.proofs.deliver.deliver.Statement.{statement}
 use Rattle.quick.proofs.deliver.deliver.Tie as tie

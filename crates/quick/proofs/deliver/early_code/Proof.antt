@@ -1,4 +1,4 @@
-use Rattle.quick.proofs.EndWays.{early-small, early-hash, early-up, early-passed}
+use Rattle.quick.proofs.Ways.{early-small, early-hash, early-up, early-passed}
 use borrow.Author.Needs.{needs}
 use Rattle.quick.proofs.deliver.early_code.Statement.{statement}
 use Rattle.quick.proofs.deliver.early_code.Tie as tie

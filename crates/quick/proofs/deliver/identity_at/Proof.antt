@@ -1,4 +1,4 @@
-use Rattle.quick.proofs.EndWays.{identity-there, identity-none}
+use Rattle.quick.proofs.Ways.{identity-there, identity-none}
 use borrow.Author.Needs.{needs}
 use Rattle.quick.proofs.deliver.identity_at.Statement.{statement}
 use Rattle.quick.proofs.deliver.identity_at.Tie as tie

@@ -1,4 +1,4 @@
-use Rattle.quick.proofs.EndWays.{opened-three}
+use Rattle.quick.proofs.Ways.{opened-three}
 use borrow.Author.Needs.{needs}
 use Rattle.quick.proofs.deliver.open.Statement.{statement}
 use Rattle.quick.proofs.deliver.open.Tie as tie

@@ -1,5 +1,4 @@
-use native.Mathlib.Omega.{arith}
-use Rattle.quick.proofs.EndWays.{two-written, identity-within}
+use Rattle.quick.proofs.Ways.{two-written}
 use borrow.Author.Needs.{needs}
 use Rattle.quick.proofs.deliver.put_two.Statement.{statement}
 use Rattle.quick.proofs.deliver.put_two.Tie as tie
@@ -11,6 +10,6 @@ put-two-spec =
     (λ c κs. search needs)
     (λ c κs. search needs)
     (λ c κs. search needs)
-    (λ c κs. (omega arith, search identity-within, search identity-within))
+    (λ c κs. search needs)
     (λ c. search needs)
     (λ c. search two-written))

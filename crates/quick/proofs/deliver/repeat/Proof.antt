@@ -1,4 +1,4 @@
-use Rattle.quick.proofs.EndWays.{repeat-sent}
+use Rattle.quick.proofs.Ways.{repeat-sent}
 use borrow.Author.Needs.{needs}
 use Rattle.quick.proofs.deliver.repeat.Statement.{statement}
 use Rattle.quick.proofs.deliver.repeat.Tie as tie

@@ -1,4 +1,4 @@
-use Rattle.quick.proofs.EndWays.{two-other, two-refused, two-opened}
+use Rattle.quick.proofs.Ways.{two-other, two-refused, two-opened}
 use borrow.Author.Needs.{needs}
 use Rattle.quick.proofs.deliver.take_two.Statement.{statement}
 use Rattle.quick.proofs.deliver.take_two.Tie as tie

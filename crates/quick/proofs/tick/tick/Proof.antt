@@ -1,4 +1,4 @@
-use Rattle.quick.proofs.EndWays.{tick-refused, tick-open, tick-again, tick-last}
+use Rattle.quick.proofs.Ways.{tick-refused, tick-open, tick-again, tick-last}
 use borrow.Author.Needs.{needs}
 use Rattle.quick.proofs.tick.tick.Statement.{statement}
 use Rattle.quick.proofs.tick.tick.Tie as tie

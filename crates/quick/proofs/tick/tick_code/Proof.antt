@@ -1,4 +1,4 @@
-use Rattle.quick.proofs.EndWays.{tick-small, tick-up, tick-idle, tick-passed}
+use Rattle.quick.proofs.Ways.{tick-small, tick-up, tick-idle, tick-passed}
 use borrow.Author.Needs.{needs}
 use Rattle.quick.proofs.tick.tick_code.Statement.{statement}
 use Rattle.quick.proofs.tick.tick_code.Tie as tie
