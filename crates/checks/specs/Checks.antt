@@ -6,7 +6,7 @@ use lib.ListN.{length}
 use lib.Dec.{ltb, eqb}
 use Rattle.wire.specs.Wire.{numberAt, equal}
 use Rattle.wire.specs.Tests.{if_then_else_}
-use Rattle.message.specs.Header.{flagsOf}
+use Rattle.header.specs.Header.{flagsOf}
 use Rattle.message.specs.Message.{message}
 use Rattle.message.specs.declared.Message.{Message}
 use Rattle.message.specs.declared.Message.the-variants.{Refused, Read}
@@ -18,7 +18,6 @@ use Rattle.shapes.specs.Shapes.{shape, shapeOf}
 use Rattle.policy.specs.declared.Transforms.{Transforms}
 use Rattle.policy.specs.declared.Transforms.the-variants.{One, Two}
 use Rattle.ends.specs.declared.State.{State}
-use Rattle.ends.specs.declared.State.the-variants.{Idle}
 use Rattle.ends.specs.declared.Own.{Own}
 use Rattle.ends.specs.declared.Spis.{Spis}
 use Rattle.ends.specs.declared.Spis.the-variants.{Alone, Both}

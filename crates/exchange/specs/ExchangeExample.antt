@@ -11,7 +11,7 @@ use Rattle.identity.specs.Identity as identities
 use Rattle.attribute.specs.Attributes as attributes
 use Rattle.offer.specs.Transforms as transforms
 use Rattle.offer.specs.Proposals as proposals
-use Rattle.message.specs.Header as header
+use Rattle.header.specs.Header as header
 use Rattle.message.specs.Payloads as payloads
 use Rattle.message.specs.Message as message
 use Rattle.fields.specs.Fields as fields

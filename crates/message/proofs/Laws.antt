@@ -15,7 +15,8 @@ use Rattle.wire.specs.Tests.{if_then_else_}
 use Rattle.wire.proofs.Tests.{never, neither, passed}
 use Rattle.wire.proofs.Laws.{number-drop, number-append}
 use Rattle.offer.specs.Proposals.{offerCode}
-use Rattle.message.specs.Header.{exchangeOf, flagsOf, firstPayload, lengthWrong, headerCode}
+use Rattle.header.specs.Header.{exchangeOf, flagsOf, firstPayload, headerCode}
+use Rattle.header.proofs.Laws.{header-long}
 use Rattle.message.specs.Payloads.{typeWrong, lengthOut, bodyCode, bodyOf, payloadCode, restCode}
 use Rattle.message.specs.Message.{Reading, refused, payloads, first, chain, reading, counted, message, walk}
 use Rattle.message.specs.declared.Payload.{Payload}
@@ -160,14 +161,6 @@ found (suc left) exchange flags another type start m ps h e =
     let (qs, eq, ep) = first-found _ _ ps v in
     let after = next-found left exchange flags m (λ a t i rs g f. found left exchange flags a t i m rs g f .0) another type start h fine qs eq in
     (rw ep (more-found exchange left m type start qs h (payload-within exchange another type (drop start m) fine) (payload-offer exchange another type (drop start m) fine) after), cons-some ps _ qs ep))
-
--- a message whose header is not refused has one
-pub header-long : (m : List ℕ) → headerCode m ≡ 0 → 28 ≤ length m
-unfolding headerCode lengthWrong
-header-long m h =
-    let right = passed (lengthWrong m) 30 _ (λ z. omega arith) h in
-    let short = neither (ltb (length m) 28 || ltb 8192 (length m)) _ (right .0) in
-    ltb-false (length m) 28 (neither (ltb (length m) 28) (ltb 8192 (length m)) (short .0) .0)
 
 pub reading-header : (m : List ℕ) (ps : List Payload) → reading m ≡ payloads ps → headerCode m ≡ 0
 unfolding reading

@@ -12,7 +12,7 @@ use Rattle.wire.specs.Wire.{numberAt, allZero}
 use Rattle.wire.specs.Tests.{if_then_else_}
 use Rattle.identity.specs.Identity.{identity}
 use Rattle.offer.specs.Proposals.{offerCode}
-use Rattle.message.specs.Header.{headerCode}
+use Rattle.header.specs.Header.{headerCode}
 use Rattle.message.specs.Payloads.{typeWrong, lengthOut, hashCode, nonceCode, certificateCode, bodyCode, bodyOf, payloadCode, restCode}
 use Rattle.message.specs.Message.{Reading, refused, payloads, first, chain, reading, counted, message, walk, payloadAt}
 use Rattle.message.specs.declared.Payload.{Payload}

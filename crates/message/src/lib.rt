@@ -1,5 +1,4 @@
 // Reading a message: its header, then its payloads one behind the other, each with its body.
-pub mod header;
 pub mod payloads;
 
 use header::header_code;

@@ -15,7 +15,7 @@ use Rattle.fields.specs.Fields.{proposalNumber}
 use Rattle.sets.specs.Parts.{set, setCount, setNumbered, proposal}
 use Rattle.fields.specs.declared.ProposalNumber.{ProposalNumber}
 use Rattle.sets.proofs.Places.{LawfulSet, set-lawful, set-by-number}
-use Rattle.message.specs.Header.{exchangeOf, firstPayload}
+use Rattle.header.specs.Header.{exchangeOf, firstPayload}
 use Rattle.message.specs.Payloads.{bodyOf}
 use Rattle.message.specs.Message.{message, walk, payloadAt}
 use Rattle.message.specs.declared.Payload.{Payload}

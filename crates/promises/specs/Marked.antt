@@ -10,7 +10,7 @@ use Rattle.der.specs.Der.{tagWrong, constructed, headSize, bodySize, contents, 
 use Rattle.attribute.specs.Attributes as attributes
 use Rattle.offer.specs.Transforms as transforms
 use Rattle.offer.specs.Proposals as proposals
-use Rattle.message.specs.Header as header
+use Rattle.header.specs.Header as header
 use Rattle.message.specs.Payloads as payloads
 use Rattle.message.specs.Message as message
 use Rattle.promises.specs.Messages.{example, both, mainBook, quickBook}

@@ -94,6 +94,8 @@ use Rattle.offer.proofs.transform_bytes.Kinds as offer-transform-bytes-kinds
 use Rattle.offer.proofs.transform_bytes.Reads as offer-transform-bytes-reads
 use Rattle.offer.proofs.check.Kinds as offer-check-kinds
 use Rattle.offer.proofs.check.Reads as offer-check-reads
+use Rattle.header.proofs.header_code.Kinds as header-header-code-kinds
+use Rattle.header.proofs.header_code.Reads as header-header-code-reads
 use Rattle.message.proofs.read.Kinds as message-read-kinds
 use Rattle.message.proofs.read.Reads as message-read-reads
 use Rattle.message.proofs.payload_at.Kinds as message-payload-at-kinds
@@ -345,6 +347,9 @@ offer-transform-bytes κs arguments x y s t p q = p ∙ sym q
 
 pub offer-check : OneAnswer 1 offer-check-kinds.ps offer-check-kinds.r (λ κs x s. x) offer-check-reads.Post
 offer-check κs arguments x y s t p q = p ∙ sym q
+
+pub header-header-code : OneAnswer 1 header-header-code-kinds.ps header-header-code-kinds.r (λ κs x s. x) header-header-code-reads.Post
+header-header-code κs arguments x y s t p q = p ∙ sym q
 
 pub message-read : OneAnswer 1 message-read-kinds.ps message-read-kinds.r (λ κs x s. x) message-read-reads.Post
 message-read κs arguments x y s t p q = p ∙ sym q

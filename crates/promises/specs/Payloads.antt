@@ -8,7 +8,7 @@ use lib.ListN.{length, getD}
 use lib.Dec.{eqb}
 use Rattle.wire.specs.Tests.{if_then_else_}
 use Rattle.wire.specs.Answer.{Answer}
-use Rattle.message.specs.Header.{firstPayload}
+use Rattle.header.specs.Header.{firstPayload}
 use Rattle.message.specs.Message.{payloads, reading, walk, payloadAt, answer}
 use Rattle.message.specs.declared.Payload.{Payload}
 use Rattle.message.specs.declared.Message.{Message}

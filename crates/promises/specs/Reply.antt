@@ -14,11 +14,11 @@ use borrow.Author.Tests.{eq-eqb, ne-eqb, le-ltb}
 use Rattle.wire.specs.Wire.{numberAt, bytesOf}
 use Rattle.wire.proofs.Tests.{by-test, passed}
 use Rattle.wire.proofs.Laws.{number-drop, number-take, number-append, number-append-add, length-bytesOf, number-bytesOf, paste-inside, drop-paste}
-use Rattle.message.specs.Header.{exchangeOf, flagsOf, firstPayload, lengthWrong, majorWrong, minorWrong, exchangeRefused, exchangeUnknown, flagsWrong, cookieWrong, messageIdWrong, padWrong, noPayload, headerCode}
+use Rattle.header.specs.Header.{exchangeOf, flagsOf, firstPayload, lengthWrong, majorWrong, minorWrong, exchangeRefused, exchangeUnknown, flagsWrong, cookieWrong, messageIdWrong, padWrong, noPayload, headerCode}
+use Rattle.header.proofs.Laws as headers
 use Rattle.message.specs.Message.{message}
 use Rattle.message.specs.declared.Message.the-variants.{Read}
 use Rattle.message.proofs.Laws.{reading-header, read-as, one-sa-reads}
-use Rattle.message.proofs.Laws as laws
 use Rattle.offer.specs.Proposals.{offerCode}
 use Rattle.fields.specs.Fields.{proposalNumber, protocol, spi, transformCount, transformNumber}
 use Rattle.sets.specs.Parts.{set, setCount, setNumbered, proposal, proposalCount, transform}
@@ -238,7 +238,7 @@ module _ (m payload : List ℕ) (long : 28 ≤ length m) (few : length payload �
 readable-long : (m : List ℕ) (exchange count : ℕ) → message m ≡ Read exchange count → 28 ≤ length m
 readable-long m exchange count readable =
     let r = read-as m exchange count readable in
-    laws.header-long m (reading-header m (r .found) (r .is))
+    headers.header-long m (reading-header m (r .found) (r .is))
 
 -- ---- the message around a payload, whose body reads
 

@@ -19,7 +19,7 @@ use Rattle.identity.specs.Identity.{quickData, lawful, identity}
 use Rattle.offer.specs.Proposals.{proposalsCode}
 use Rattle.offer.specs.Proposals as proposals
 use Rattle.offer.proofs.Written.{offer-right}
-use Rattle.message.specs.Header.{exchangeOf, flagsOf, firstPayload, lengthWrong, majorWrong, minorWrong, exchangeRefused, exchangeUnknown, flagsWrong, cookieWrong, messageIdWrong, padWrong, noPayload, headerCode}
+use Rattle.header.specs.Header.{exchangeOf, flagsOf, firstPayload, lengthWrong, majorWrong, minorWrong, exchangeRefused, exchangeUnknown, flagsWrong, cookieWrong, messageIdWrong, padWrong, noPayload, headerCode}
 use Rattle.message.specs.Payloads.{typeWrong, lengthOut, hashCode, nonceCode, bodyCode, bodyOf, payloadCode, restCode}
 use Rattle.message.specs.Message.{Reading, refused, payloads, first, chain, reading, counted, message, walk, payloadAt}
 use Rattle.message.specs.declared.Payload.{Payload}

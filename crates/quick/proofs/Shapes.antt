@@ -9,7 +9,7 @@ use lib.Dec.{eqb}
 use Rattle.wire.specs.Wire.{numberAt, bytesOf}
 use Rattle.wire.specs.Tests.{if_then_else_}
 use Rattle.identity.specs.Identity.{identity}
-use Rattle.message.specs.Header.{flagsOf}
+use Rattle.header.specs.Header.{flagsOf}
 use Rattle.message.specs.Message.{message}
 use Rattle.message.specs.declared.Message.the-variants.{Read}
 use Rattle.book.specs.Book.{bookInFront, bookSize}

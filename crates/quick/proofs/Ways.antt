@@ -12,7 +12,7 @@ use Rattle.wire.specs.Tests.{if_then_else_}
 use Rattle.wire.proofs.Laws.{put-size}
 use Rattle.wire.proofs.Tests.{clash, both, by-test, passed}
 use Rattle.identity.specs.Identity.{identity, lawful, quickData}
-use Rattle.message.specs.Header.{headerCode, exchangeOf, flagsOf, firstPayload}
+use Rattle.header.specs.Header.{headerCode, exchangeOf, flagsOf, firstPayload}
 use Rattle.message.specs.Payloads.{payloadCode, restCode}
 use Rattle.message.specs.Message.{Reading, refused, payloads, first, chain, reading, counted, message, payloadAt}
 use Rattle.message.specs.declared.Payload.{Payload}

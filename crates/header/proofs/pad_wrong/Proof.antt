@@ -1,7 +1,7 @@
-use Rattle.message.specs.Header.{padWrong}
+use Rattle.header.specs.Header.{padWrong}
 use borrow.Author.Needs.{needs}
-use Rattle.message.proofs.header.pad_wrong.Statement.{statement}
-use Rattle.message.proofs.header.pad_wrong.Tie as tie
+use Rattle.header.proofs.pad_wrong.Statement.{statement}
+use Rattle.header.proofs.pad_wrong.Tie as tie
 
 pub pad-wrong-spec : {M : Type 1} → statement M
 unfolding padWrong

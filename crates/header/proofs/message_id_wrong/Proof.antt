@@ -1,7 +1,7 @@
-use Rattle.message.specs.Header.{messageIdWrong}
+use Rattle.header.specs.Header.{messageIdWrong}
 use borrow.Author.Needs.{needs}
-use Rattle.message.proofs.header.message_id_wrong.Statement.{statement}
-use Rattle.message.proofs.header.message_id_wrong.Tie as tie
+use Rattle.header.proofs.message_id_wrong.Statement.{statement}
+use Rattle.header.proofs.message_id_wrong.Tie as tie
 
 pub message-id-wrong-spec : {M : Type 1} → statement M
 unfolding messageIdWrong

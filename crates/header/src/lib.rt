@@ -5,7 +5,7 @@ use wire::be32;
 use wire::byte;
 use wire::front;
 ghost use mathlib.Core.Path.{_≡_};
-ghost use Rattle.message.specs.Header.{lengthWrong, majorWrong, minorWrong, exchangeRefused, exchangeUnknown, flagsWrong, cookieWrong, messageIdWrong, padWrong, noPayload, headerCode};
+ghost use Rattle.header.specs.Header.{lengthWrong, majorWrong, minorWrong, exchangeRefused, exchangeUnknown, flagsWrong, cookieWrong, messageIdWrong, padWrong, noPayload, headerCode};
 
 fn length_wrong(m: &[u8]) -> bool
     ensures { λ r. ⌜ r ≡ lengthWrong (now (m .entry)) ⌝ }
@@ -73,7 +73,7 @@ fn no_payload(m: &[u8]) -> bool
 }
 
 // 0 where the header is lawful, else the refusal.
-pub(crate) fn header_code(m: &[u8]) -> u16
+pub fn header_code(m: &[u8]) -> u16
     ensures { λ r. ⌜ r ≡ headerCode (now (m .entry)) ⌝ }
 {
     if length_wrong(m) {

@@ -1,9 +1,9 @@
 use mathlib.Core.Path.{refl}
 use Rattle.wire.proofs.Tests.{told-then, told-else}
-use Rattle.message.specs.Header.{headerCode}
+use Rattle.header.specs.Header.{headerCode}
 use borrow.Author.Needs.{needs}
-use Rattle.message.proofs.header.header_code.Statement.{statement}
-use Rattle.message.proofs.header.header_code.Tie as tie
+use Rattle.header.proofs.header_code.Statement.{statement}
+use Rattle.header.proofs.header_code.Tie as tie
 
 pub header-code-spec : {M : Type 1} → statement M
 unfolding headerCode

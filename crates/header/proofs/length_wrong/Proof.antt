@@ -1,7 +1,7 @@
-use Rattle.message.specs.Header.{lengthWrong}
+use Rattle.header.specs.Header.{lengthWrong}
 use borrow.Author.Needs.{needs}
-use Rattle.message.proofs.header.length_wrong.Statement.{statement}
-use Rattle.message.proofs.header.length_wrong.Tie as tie
+use Rattle.header.proofs.length_wrong.Statement.{statement}
+use Rattle.header.proofs.length_wrong.Tie as tie
 
 pub length-wrong-spec : {M : Type 1} → statement M
 unfolding lengthWrong

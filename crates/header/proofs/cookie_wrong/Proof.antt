@@ -1,7 +1,7 @@
-use Rattle.message.specs.Header.{cookieWrong}
+use Rattle.header.specs.Header.{cookieWrong}
 use borrow.Author.Needs.{needs}
-use Rattle.message.proofs.header.cookie_wrong.Statement.{statement}
-use Rattle.message.proofs.header.cookie_wrong.Tie as tie
+use Rattle.header.proofs.cookie_wrong.Statement.{statement}
+use Rattle.header.proofs.cookie_wrong.Tie as tie
 
 pub cookie-wrong-spec : {M : Type 1} → statement M
 unfolding cookieWrong

@@ -1,9 +1,0 @@
-use Rattle.message.specs.Header.{flagsWrong}
-use borrow.Author.Needs.{needs}
-use Rattle.message.proofs.header.flags_wrong.Statement.{statement}
-use Rattle.message.proofs.header.flags_wrong.Tie as tie
-
-pub flags-wrong-spec : {M : Type 1} → statement M
-unfolding flagsWrong
-flags-wrong-spec = tie.close (tie.spec (λ c κs. search needs)
-    (λ c. cc))
