@@ -35,5 +35,3 @@ packetPacked (verdict, after) = (verdictPacked verdict, after)
 -- a step's verdict as its number, beside the record after it
 unfoldable pub judgedPacked : Judged → ℕ × Receive
 judgedPacked j = (verdictPacked (j .verdict), j .receive)
-
--- ---- one exchange of two quick mode ends

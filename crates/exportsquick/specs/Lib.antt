@@ -1,1 +1,2 @@
 pub mod Exchanges
+pub mod Replies

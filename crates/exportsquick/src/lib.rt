@@ -1,4 +1,4 @@
-// A whole exchange in one call for another language: two fresh ends, from begin to both open.
+// What another language calls to reply to a message, and for a whole exchange in one call: two fresh ends, from begin to both open.
 use ends::End;
 use ends::Role;
 use ends::State;
@@ -7,12 +7,34 @@ use quick::StepAnswer;
 use quick::Stepped;
 use quick::begin::begin;
 use quick::deliver::deliver;
+use reply::Outcome;
+use reply::reply;
 use wire::front;
 ghost use mathlib.Core.Path.{_≡_};
 ghost use Prim.Native.Nat.{_+_, _*_};
 ghost use Rattle.ends.specs.declared.Role.the-variants.{Initiator, Responder};
 ghost use Rattle.ends.specs.Fresh.{fresh};
+ghost use Rattle.reply.specs.Reply.{replied};
 ghost use Rattle.exportsquick.specs.Exchanges.{stateNumber, sendSize, given, exchanged};
+ghost use Rattle.exportsquick.specs.Replies.{replyPacked};
+
+// Chooses, and writes the reply at the buffer's start: the refusal number, or 65,536 + how many bytes the reply has.
+#[no_mangle]
+pub extern "C" fn tallowbrim_reply(
+    book: &[u8],
+    m: &[u8],
+    ah: u32,
+    esp: u32,
+    buffer: &mut [u8],
+) -> u32
+    ensures { λ r. ⌜ replyPacked (replied (now (book .entry)) (now (m .entry)) ah esp (now (buffer .entry))) ≡ (r, now (buffer .exit)) ⌝ }
+{
+    let outcome = reply(book, m, ah, esp, buffer);
+    match outcome {
+        Outcome::Refused(number) => number as u32,
+        Outcome::Written(size) => 65536 + size as u32,
+    }
+}
 
 // A state's number: 0 Idle, 1 Sent, 2 Half, 3 Open, 4 GivenUp.
 fn state_number(end: End) -> u8

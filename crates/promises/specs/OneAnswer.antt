@@ -201,6 +201,8 @@ use Rattle.receive.proofs.step.Kinds as receive-step-kinds
 use Rattle.receive.proofs.step.Reads as receive-step-reads
 use Rattle.receive.proofs.loss_line.Kinds as receive-loss-line-kinds
 use Rattle.receive.proofs.loss_line.Reads as receive-loss-line-reads
+use Rattle.exportsquick.proofs.tallowbrim_reply.Kinds as exportsquick-tallowbrim-reply-kinds
+use Rattle.exportsquick.proofs.tallowbrim_reply.Reads as exportsquick-tallowbrim-reply-reads
 use Rattle.exportsquick.proofs.tallowbrim_exchange.Kinds as exportsquick-tallowbrim-exchange-kinds
 use Rattle.exportsquick.proofs.tallowbrim_exchange.Reads as exportsquick-tallowbrim-exchange-reads
 use Rattle.sequence.proofs.table.add.Kinds as sequence-add-kinds
@@ -539,6 +541,9 @@ receive-step-lent before number whole x y p q = p ∙ sym q
 
 pub exports-tallowbrim-packet : OneAnswer 2 exports-tallowbrim-packet-kinds.ps exports-tallowbrim-packet-kinds.r {A = ℕ × List ℕ} (λ κs x s. (x, now (s .0))) exports-tallowbrim-packet-reads.Post
 exports-tallowbrim-packet κs arguments x y s t p q = sym p ∙ q
+
+pub exportsquick-tallowbrim-reply : OneAnswer 3 exportsquick-tallowbrim-reply-kinds.ps exportsquick-tallowbrim-reply-kinds.r {A = ℕ × List ℕ} (λ κs x s. (x, now (s .1 .1 .1 .1 .0))) exportsquick-tallowbrim-reply-reads.Post
+exportsquick-tallowbrim-reply κs arguments x y s t p q = sym p ∙ q
 
 pub exportsquick-tallowbrim-exchange : OneAnswer 12 exportsquick-tallowbrim-exchange-kinds.ps exportsquick-tallowbrim-exchange-kinds.r {A = Exchanged} (λ κs x s. record { states = x; isent = now (s .1 .1 .1 .1 .1 .1 .1 .1 .1 .1 .1 .0); igot = now (s .1 .1 .1 .1 .1 .1 .1 .1 .1 .1 .1 .1 .0); ioutput = now (s .1 .1 .1 .1 .1 .1 .1 .1 .1 .1 .1 .1 .1 .0); rsent = now (s .1 .1 .1 .1 .1 .1 .1 .1 .1 .1 .1 .1 .1 .1 .0); rgot = now (s .1 .1 .1 .1 .1 .1 .1 .1 .1 .1 .1 .1 .1 .1 .1 .0); routput = now (s .1 .1 .1 .1 .1 .1 .1 .1 .1 .1 .1 .1 .1 .1 .1 .1 .0) }) exportsquick-tallowbrim-exchange-reads.Post
 exportsquick-tallowbrim-exchange κs arguments x y s t p q = sym p ∙ q
