@@ -7,8 +7,6 @@ use std::hint::black_box;
 
 const CHOICES_A_ROUND: usize = 100;
 
-const LIFE: u32 = 3_600;
-
 type Choose = fn(&[u8], &[u8]) -> u64;
 
 mod exports {
@@ -20,25 +18,22 @@ mod exports {
 
 /// The core's time over the second program's, where only the last set suits, and it only the last line.
 pub fn ratio() -> f64 {
-    let [mut lives, mut seconds] = [[LIFE + 1; 8], [LIFE - 1; 8]];
-    (lives[7], seconds[7]) = (LIFE, LIFE);
-    let ratio = compare("last set, last line", &samples::lines(&seconds), &samples::eight_sets(lives));
-    compare("first set, first line", &samples::lines(&[LIFE; 8]), &samples::eight_sets([LIFE; 8]));
+    let [last, first] = samples::choices();
+    let ratio = compare(last);
+    compare(first);
     ratio
 }
 
-fn compare(name: &str, book: &[u8], message: &[u8]) -> f64 {
+fn compare((name, book, message): (&str, Vec<u8>, Vec<u8>)) -> f64 {
+    let (book, message) = (&book[..], &message[..]);
     let answer = second(book, message);
     assert_eq!(core(book, message), answer, "{name}: the two choose unlike");
-    let times = timing::medians([&|| choose(core, book, message), &|| choose(second, book, message)], CHOICES_A_ROUND);
-    let [core, second] = times;
-    let ratio = core / second;
     let [_, _, _, _, set, line, ..] = answer.to_be_bytes();
-    println!(
-        "{name} ({} bytes, chosen {set} {line}): core {core:.0}, second {second:.0}, ratio {ratio:.2}",
-        message.len()
-    );
-    ratio
+    timing::ratio(
+        &format!("{name} ({} bytes, chosen {set} {line})", message.len()),
+        [&|| choose(core, book, message), &|| choose(second, book, message)],
+        CHOICES_A_ROUND,
+    )
 }
 
 fn choose(contender: Choose, book: &[u8], message: &[u8]) {

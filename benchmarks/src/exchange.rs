@@ -16,7 +16,7 @@ const AH: u32 = 0x1000_0001;
 const ESP: u32 = 0x1000_0002;
 const NONCES: [[u8; 16]; 2] = [[0xa5; 16], [0x5a; 16]];
 
-/// 256 times the initiator's state and the responder's, both being 3, Open (crates/exports/specs/Exports.antt).
+/// 256 times the initiator's state and the responder's, both being 3, Open (crates/exportsquick/specs/Exchanges.antt).
 const BOTH_OPEN: u32 = 256 * 3 + 3;
 
 const ROOM: usize = 2_048;
@@ -80,10 +80,11 @@ fn compare(name: &str, seconds: [&[u32]; 2]) -> f64 {
     let identity = [&[4, 0, 0, 0][..], &[192, 0, 2, 0], &[255, 255, 255, 0]].concat();
     let given = &Given { books: seconds.map(samples::lines), identity };
     let length = agreed(name, given);
-    let [core, second] = timing::medians([&|| core_round(given), &|| second_round(given)], EXCHANGES_A_ROUND);
-    let ratio = core / second;
-    println!("{name} (message 1 of {length} bytes): core {core:.0}, second {second:.0}, ratio {ratio:.2}");
-    ratio
+    timing::ratio(
+        &format!("{name} (message 1 of {length} bytes)"),
+        [&|| core_round(given), &|| second_round(given)],
+        EXCHANGES_A_ROUND,
+    )
 }
 
 /// The length of message 1, where both reach Open with the same three messages, byte for byte.

@@ -1,4 +1,4 @@
-//! The messages that are read, built from the inside out.
+//! The messages and books, built from the inside out.
 
 const MAIN_MODE: u8 = 2;
 const QUICK_MODE: u8 = 32;
@@ -14,6 +14,8 @@ const NONCE: u8 = 10;
 const ISAKMP: u8 = 1;
 const AH: u8 = 2;
 const ESP: u8 = 3;
+
+const LIFE: u32 = 3_600;
 
 const HEADER_SIZE: usize = 28;
 const BLOCK_SIZE: usize = 16;
@@ -34,8 +36,18 @@ pub fn quick_mode() -> Vec<u8> {
     quick_mode_with(offer)
 }
 
-/// The same with eight sets of AH with ESP, each with its life in seconds.
-pub fn eight_sets(lives: [u32; 8]) -> Vec<u8> {
+/// A book of eight lines and an offer of eight sets, AH with ESP each, that differ in their seconds alone: twice, by what is chosen.
+pub fn choices() -> [(&'static str, Vec<u8>, Vec<u8>); 2] {
+    let [mut lives, mut longest] = [[LIFE + 1; 8], [LIFE - 1; 8]];
+    (lives[7], longest[7]) = (LIFE, LIFE);
+    [
+        ("last set, last line", lines(&longest), eight_sets(lives)),
+        ("first set, first line", lines(&[LIFE; 8]), eight_sets([LIFE; 8])),
+    ]
+}
+
+/// The quick mode message with eight sets of AH with ESP, each with its life in seconds.
+fn eight_sets(lives: [u32; 8]) -> Vec<u8> {
     let sets = lives.map(|life| {
         let esp = [fixed(4, 1), fixed(1, 1), seconds(2, life)];
         let ah = [&esp[..], &[fixed(5, 20)]].concat();

@@ -1,4 +1,4 @@
-//! The second program's rooms that read a message, choose, and play the ends of quick mode, taken in as they stand.
+//! The second program's rooms that read a message, choose, reply, and play the ends of quick mode, taken in as they stand.
 
 #[path = "../../tests/second/src/der.rs"]
 pub mod der;

@@ -36,17 +36,8 @@ extern "C" {
 
 const ORDERS: [(&str, Order); 2] = [("in order", Order::InOrder), ("mixed", Order::Mixed)];
 
-/// The core's time over each peer's, the greater one of the two orders.
-pub struct Ratios {
-    rust: f64,
-    c: f64,
-}
-
-impl std::fmt::Display for Ratios {
-    fn fmt(&self, to: &mut std::fmt::Formatter) -> std::fmt::Result {
-        write!(to, "rust {:.2} c {:.2}", self.rust, self.c)
-    }
-}
+/// The core's time over the peer's in Rust and over that in C, each the greater one of the two orders.
+type Ratios = [f64; 2];
 
 pub fn record() -> Ratios {
     greatest(ORDERS.map(|(order_name, order)| {
@@ -137,11 +128,11 @@ fn alike(order_name: &str, verdicts: [Vec<u32>; 3]) -> String {
 }
 
 fn told(what: &str, [core, rust, c]: [f64; 3]) -> Ratios {
-    let ratios = Ratios { rust: core / rust, c: core / c };
-    println!("{what}: core {core:.2}, rust {rust:.2}, c {c:.2}, ratio {ratios}");
+    let ratios = [core / rust, core / c];
+    println!("{what}: core {core:.2}, rust {rust:.2}, c {c:.2}, ratio rust {:.2} c {:.2}", ratios[0], ratios[1]);
     ratios
 }
 
 fn greatest([a, b]: [Ratios; 2]) -> Ratios {
-    Ratios { rust: a.rust.max(b.rust), c: a.c.max(b.c) }
+    [a[0].max(b[0]), a[1].max(b[1])]
 }

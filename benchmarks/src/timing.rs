@@ -4,6 +4,14 @@ use std::time::Instant;
 
 const ROUNDS: usize = 2_001;
 
+/// The core's time over the second program's, which are also printed.
+pub fn ratio(what: &str, core_and_second: [&dyn Fn(); 2], calls_a_round: usize) -> f64 {
+    let [core, second] = medians(core_and_second, calls_a_round);
+    let ratio = core / second;
+    println!("{what}: core {core:.0}, second {second:.0}, ratio {ratio:.2}");
+    ratio
+}
+
 /// Nanoseconds a call for each contender: the median of its rounds, of so many calls each.
 pub fn medians<const CONTENDERS: usize>(
     contenders: [&dyn Fn(); CONTENDERS],

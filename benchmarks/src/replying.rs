@@ -1,0 +1,85 @@
+//! Times replying to an offer of eight sets by a book of eight lines, AH with ESP each: the core and the second program.
+
+use crate::samples;
+use crate::timing;
+use second::reply::{self, Spis};
+use std::hint::black_box;
+
+const REPLIES_A_ROUND: usize = 100;
+
+const AH: u32 = 0x1000_0001;
+const ESP: u32 = 0x1000_0002;
+const ROOM: usize = 2_048;
+
+/// A reply is answered by this and its size, a refusal by its number (crates/exportsquick/specs/Replies.antt).
+const WRITTEN: u32 = 65_536;
+
+mod exports {
+    extern "C" {
+        /// Each slice of bytes is two: where it begins, and its length.
+        pub fn tallowbrim_reply(
+            book: *const u8,
+            book_length: usize,
+            start: *const u8,
+            length: usize,
+            ah: u32,
+            esp: u32,
+            buffer: *mut u8,
+            room: usize,
+        ) -> u32;
+    }
+}
+
+/// The core's time over the second program's, where only the last set suits, and it only the last line.
+pub fn ratio() -> f64 {
+    let [last, first] = samples::choices();
+    let ratio = compare(last);
+    compare(first);
+    ratio
+}
+
+fn compare((name, book, message): (&str, Vec<u8>, Vec<u8>)) -> f64 {
+    let (book, message) = (&book[..], &message[..]);
+    let reply = second(book, message).unwrap_or_else(|number| panic!("{name}: the second program refused {number}"));
+    let mut buffer = [0; ROOM];
+    assert_eq!(core(book, message, &mut buffer), WRITTEN + reply.len() as u32, "{name}: the two reply unlike");
+    assert!(buffer.starts_with(&reply), "{name}: the two write replies unlike");
+    timing::ratio(
+        &format!("{name} ({} bytes, a reply of {})", message.len(), reply.len()),
+        [&|| core_round(book, message), &|| second_round(book, message)],
+        REPLIES_A_ROUND,
+    )
+}
+
+fn core_round(book: &[u8], message: &[u8]) {
+    let mut buffer = [0; ROOM];
+    for _ in 0..REPLIES_A_ROUND {
+        black_box(core(black_box(book), black_box(message), &mut buffer));
+    }
+}
+
+fn second_round(book: &[u8], message: &[u8]) {
+    for _ in 0..REPLIES_A_ROUND {
+        let _ = black_box(second(black_box(book), black_box(message)));
+    }
+}
+
+fn core(book: &[u8], message: &[u8], buffer: &mut [u8; ROOM]) -> u32 {
+    // SAFETY: these are those of slices that outlive the call, the lent one overlaps no other, and the core asks no more.
+    unsafe {
+        exports::tallowbrim_reply(
+            book.as_ptr(),
+            book.len(),
+            message.as_ptr(),
+            message.len(),
+            AH,
+            ESP,
+            buffer.as_mut_ptr(),
+            ROOM,
+        )
+    }
+}
+
+fn second(book: &[u8], message: &[u8]) -> Result<Vec<u8>, u16> {
+    reply::alone(book, Spis { ah: AH, esp: ESP }, ROOM, message)
+}
