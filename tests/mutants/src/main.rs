@@ -2,9 +2,9 @@
 //! look for a difference between that mutant and the core; see ../README.md. What is changed is said in scan.rs, which
 //! finds it by rules, and in named.rs.
 //!
-//! `mutants BENCH VERDICT SOURCES PAGE FOLDER [TEXT]`: the core's programs, the folder of the second program's sources, the
-//! page with the table of mutants that no input could show, and a folder to build in. With TEXT only the mutants whose
-//! file and change hold it are tried.
+//! `mutants BENCH VERDICT SOURCES PAGE FOLDER [TEXT..]`: the core's programs, the folder of the second program's sources,
+//! the page with the table of mutants that no input could show, and a folder to build in. With texts only the mutants
+//! whose file and change hold one of them are tried.
 
 mod equivalents;
 mod mutation;
@@ -69,24 +69,27 @@ struct Request {
     sources: PathBuf,
     page: PathBuf,
     folder: PathBuf,
-    text: String,
+    texts: Vec<String>,
+}
+
+impl Request {
+    /// The file counts with a slash before it, so that `/lines.rs` is not `quick_lines.rs`.
+    fn asks_for(&self, mutation: &Mutation) -> bool {
+        let shown = format!("/{}", show(mutation));
+        self.texts.is_empty() || self.texts.iter().any(|text| shown.contains(text.as_str()))
+    }
 }
 
 fn request(arguments: &[String]) -> Option<Request> {
-    let [bench, verdict, sources, page, folder, text @ ..] = arguments else { return None };
-    let text = match text {
-        [] => String::new(),
-        [text] => text.clone(),
-        _ => return None,
-    };
+    let [bench, verdict, sources, page, folder, texts @ ..] = arguments else { return None };
     let [bench, verdict, sources, page, folder] = [bench, verdict, sources, page, folder].map(PathBuf::from);
-    Some(Request { bench, verdict, sources, page, folder, text })
+    Some(Request { bench, verdict, sources, page, folder, texts: texts.to_vec() })
 }
 
 fn main() -> ExitCode {
     let arguments: Vec<String> = std::env::args().skip(1).collect();
     let Some(request) = request(&arguments) else {
-        eprintln!("usage: mutants BENCH VERDICT SOURCES PAGE FOLDER [TEXT]");
+        eprintln!("usage: mutants BENCH VERDICT SOURCES PAGE FOLDER [TEXT..]");
         return ExitCode::from(2);
     };
     match try_all(&request) {
@@ -133,7 +136,7 @@ fn try_all(request: &Request) -> Result<bool, String> {
     let mut trier = Trier::new(trials::all(&request.bench, &request.verdict)?, workshop)?;
     let mut log = File::create(request.folder.join("log")).map_err(|error| error.to_string())?;
     let mut tally = Tally { wrong_entries: stale.len(), ..Tally::default() };
-    for (source, mutation) in mutants.iter().filter(|(_, mutation)| show(mutation).contains(&request.text)) {
+    for (source, mutation) in mutants.iter().filter(|(_, mutation)| request.asks_for(mutation)) {
         let started = Instant::now();
         let is_listed = entries.iter().any(|entry| entry.is_of(mutation));
         let fate = trier.fate(source, mutation, is_listed)?;
