@@ -111,6 +111,11 @@ impl Cases {
         self.add(line.into_bytes(), vec![answer], ProgramsOf::Lines);
     }
 
+    /// A line of these words, with its answer.
+    pub fn words(&mut self, words: &str, answer: &str) {
+        self.one_line(format!("{words}\n"), Some(answer.to_string()));
+    }
+
     /// Whole lines and the answers to them.
     pub fn lines(&mut self, input: Vec<u8>, answers: &[String]) {
         self.add(input, answers.iter().cloned().map(Some).collect(), ProgramsOf::Lines);

@@ -5,7 +5,7 @@
 use crate::cases::{bytes, refused, word, Cases};
 use crate::identity;
 use crate::message::{message_of, opaque, sa, Message, Payload, HASH, IDENTITY, NONCE, QUICK_MODE};
-use crate::offer::{fixed, transform, Offer, Proposal, AH, SMALL};
+use crate::offer::{fixed, proposal_of, transform, Offer, Proposal, AH, SMALL};
 use crate::policy::{self, book_of, suiting_id, Book, Line, MOST_LINES};
 use crate::random::Random;
 use second::bench::Bench;
@@ -157,7 +157,7 @@ pub fn proposals(number: u8, line: &Line, own: &Given) -> Vec<Proposal> {
         attributes.sort_by_key(|attribute| place(attribute.kind));
         let offered = transform(1, suiting_id(protocol), attributes);
         let spi = own.spi(protocol).to_be_bytes().to_vec();
-        policy::proposal_of(number, protocol, spi, vec![offered])
+        proposal_of(number, protocol, spi, vec![offered])
     };
     line.protocols.iter().map(proposal).collect()
 }

@@ -33,18 +33,25 @@ pub type Maker = fn(&mut Random, &mut Cases);
 /// What must occur beside kinds of answers: its name, how often at least, and how it is known by a case and its answers.
 pub type Occasion = (&'static str, usize, fn(&Case, &[String]) -> bool);
 
+/// Kinds of answers, in lists that several groups may share: what stands before their numbers, and each refusal by itself.
+pub type Answers = &'static [&'static [&'static str]];
+
 pub struct Group {
     pub name: &'static str,
-    pub answers: &'static [&'static str],
+    pub answers: Answers,
     /// How often each of them must occur.
     pub at_least: usize,
     /// Answers that may occur beside these.
-    pub also: &'static [&'static str],
+    pub also: Answers,
     /// Whether an answer hangs on the lines before, so that a case by itself means nothing.
     pub in_order: bool,
     pub occasions: &'static [Occasion],
     pub kinds: &'static [(&'static str, Maker)],
 }
+
+/// What most groups do without. A group that does not say how often its answers must occur fails.
+const PLAIN: Group =
+    Group { name: "", answers: &[], at_least: usize::MAX, also: &[], in_order: false, occasions: &[], kinds: &[] };
 
 pub const ALL: &[Group] = &[
     der_trees::GROUP,
@@ -72,39 +79,48 @@ pub const ALL: &[Group] = &[
     exchanges::GROUP,
 ];
 
-/// Every line `read` is answered by one of these.
-const READ_ANSWERS: &[&str] = &[
-    "read",
-    "refused 1",
-    "refused 2",
-    "refused 3",
-    "refused 4",
-    "refused 5",
-    "refused 6",
-    "refused 7",
-    "refused 8",
-    "refused 9",
-    "refused 10",
-    "refused 11",
-    "refused 13",
-    "refused 15",
-    "refused 16",
-    "refused 18",
-    "refused 19",
-    "refused 29",
-    "refused 30",
+/// Every number that a reading can be refused with.
+#[rustfmt::skip]
+const READ_REFUSALS: &[&str] = &[
+    "refused 1", "refused 2", "refused 3", "refused 4", "refused 5", "refused 6", "refused 7", "refused 8", "refused 9",
+    "refused 10", "refused 11", "refused 13", "refused 15", "refused 16", "refused 18", "refused 19", "refused 29", "refused 30",
 ];
 
-/// Every number that a reading can be refused with.
-const READ_REFUSALS: &[&str] = READ_ANSWERS.split_at(1).1;
+/// Every line `read` is answered by one of these.
+const READ_ANSWERS: Answers = &[&["read"], READ_REFUSALS];
+
+/// What a reading can say of an SA payload.
+const OFFER_ANSWERS: Answers =
+    &[&["read", "refused 2", "refused 3", "refused 10", "refused 11", "refused 13", "refused 15"]];
 
 /// Every line `der` is answered by one of these.
-const DER_ANSWERS: &[&str] = &["name", "element", "none"];
+const DER_ANSWERS: Answers = &[&["name", "element", "none"]];
+
+/// What quick mode ends answer, refusals aside, with the states that come before an exchange.
+const END_ANSWERS: &[&str] = &["fresh", "room", "send", "nothing", "kept", "idle sends", "sent sends"];
+
+/// The states that come in the course of an exchange, with and without agreed values.
+const LATER_STATES: &[&str] = &[
+    "half sends set transforms initiator-spis responder-spis initiator-nonce responder-nonce",
+    "open sends set transforms initiator-spis responder-spis initiator-nonce responder-nonce",
+    "given-up sends",
+    "given-up sends set transforms initiator-spis responder-spis initiator-nonce responder-nonce",
+];
 
 /// The longest line `der BYTES` has so many bytes in hex.
 const MOST_DER_BYTES: usize = (65_535 - "der ".len()) / 2;
 
 impl Group {
+    /// The kinds of answers that must occur.
+    pub fn wanted(&self) -> impl Iterator<Item = &'static str> {
+        self.answers.iter().copied().flatten().copied()
+    }
+
+    /// Whether a kind of answer belongs to the group.
+    pub fn knows(&self, kind: &str) -> bool {
+        self.answers.iter().chain(self.also).any(|kinds| kinds.contains(&kind))
+    }
+
     pub fn cases(&self, seed: u64) -> Vec<Case> {
         let mut random = Random::new(seed, self.name);
         let mut cases = Cases { kind: "", detail: String::new(), made: Vec::new() };
@@ -114,5 +130,22 @@ impl Group {
             make(&mut random, &mut cases);
         }
         cases.made
+    }
+}
+
+#[cfg(test)]
+mod tests {
+    use super::*;
+    use std::collections::BTreeSet;
+
+    #[test]
+    fn every_group_says_what_must_occur_and_how_often() {
+        for group in ALL {
+            let says = !group.name.is_empty() && !group.kinds.is_empty() && group.wanted().next().is_some();
+            assert!(says && group.at_least < PLAIN.at_least, "{}", group.name);
+            let wanted: BTreeSet<_> = group.wanted().collect();
+            assert_eq!(wanted.len(), group.wanted().count(), "{} names an answer twice", group.name);
+            assert!(wanted.iter().all(|kind| group.knows(kind)) && !group.knows("refused 12"), "{}", group.name);
+        }
     }
 }

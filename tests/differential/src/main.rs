@@ -137,7 +137,7 @@ impl Counts {
     }
 
     fn show(&self, group: &Group) -> String {
-        let answers = group.answers.iter().map(|kind| format!("{} {kind}", self.of(kind)));
+        let answers = group.wanted().map(|kind| format!("{} {kind}", self.of(kind)));
         let occasions = self.occasions.iter().zip(group.occasions).map(|(count, (name, ..))| format!("{count} {name}"));
         answers.chain(occasions).collect::<Vec<_>>().join(", ")
     }
@@ -145,13 +145,12 @@ impl Counts {
 
 fn count_occurrences(group: &Group, cases: &[Case], counts: &Counts, tally: &mut Tally) {
     let name = group.name;
-    let rare: Vec<_> = group.answers.iter().filter(|kind| counts.of(kind) < group.at_least).collect();
+    let rare: Vec<_> = group.wanted().filter(|kind| counts.of(kind) < group.at_least).collect();
     tally.count(&format!("{name}: every kind of answer occurred often enough"), &rare, |kind| {
         format!("`{kind}` occurred {} times, not {}", counts.of(kind), group.at_least)
     });
 
-    let is_listed = |kind: &str| group.answers.contains(&kind) || group.also.contains(&kind);
-    let foreign: Vec<_> = counts.kinds.keys().filter(|kind| !is_listed(kind)).collect();
+    let foreign: Vec<_> = counts.kinds.keys().filter(|kind| !group.knows(kind)).collect();
     tally.count(&format!("{name}: no other kind of answer occurred"), &foreign, |kind| format!("`{kind}`"));
 
     let unmade = |kind: &&str| !cases.iter().any(|case| case.kind == *kind);

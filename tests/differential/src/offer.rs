@@ -245,9 +245,8 @@ pub fn lawful_spi(random: &mut Random, exchange: u8) -> Vec<u8> {
     (random.between(256, 0xffff_ffff) as u32).to_be_bytes().to_vec()
 }
 
-/// A lawful proposal with one to `most_transforms` transforms.
-pub fn random_proposal(random: &mut Random, exchange: u8, number: u8, protocol: u8, sizes: Sizes) -> Proposal {
-    let count = random.between(1, sizes.transforms);
+/// A proposal that is written as it should be.
+pub fn proposal_of(number: u8, protocol: u8, spi: Vec<u8>, transforms: Vec<Transform>) -> Proposal {
     Proposal {
         next: None,
         reserved: 0,
@@ -256,10 +255,17 @@ pub fn random_proposal(random: &mut Random, exchange: u8, number: u8, protocol: 
         protocol,
         spi_size: None,
         count: None,
-        spi: lawful_spi(random, exchange),
-        transforms: random_transforms(random, exchange, count, sizes.attributes),
+        spi,
+        transforms,
         rest: Vec::new(),
     }
+}
+
+/// A lawful proposal with one to `sizes.transforms` transforms.
+pub fn random_proposal(random: &mut Random, exchange: u8, number: u8, protocol: u8, sizes: Sizes) -> Proposal {
+    let count = random.between(1, sizes.transforms);
+    let spi = lawful_spi(random, exchange);
+    proposal_of(number, protocol, spi, random_transforms(random, exchange, count, sizes.attributes))
 }
 
 /// How much an offer has at most of each.

@@ -1,10 +1,9 @@
 //! Policy books, and offers made to suit their lines or to miss them by a little.
 
-use crate::layout::Length;
 use crate::message::{MAIN_MODE, QUICK_MODE};
 use crate::offer::{
-    fixed, free_kind, lawful_spi, life_duration, random_attribute, transform, variable, Attribute, Offer, Proposal,
-    Transform, Value, AH, ESP, ISAKMP,
+    fixed, free_kind, lawful_spi, life_duration, proposal_of, random_attribute, transform, variable, Attribute, Offer,
+    Proposal, Transform, Value, AH, ESP, ISAKMP,
 };
 use crate::random::Random;
 
@@ -243,22 +242,6 @@ pub fn proposal(random: &mut Random, number: u8, protocol: u8, mut transforms: V
     let exchange = if protocol == ISAKMP { MAIN_MODE } else { QUICK_MODE };
     let spi = lawful_spi(random, exchange);
     proposal_of(number, protocol, spi, transforms)
-}
-
-/// A proposal that is written as it should be.
-pub fn proposal_of(number: u8, protocol: u8, spi: Vec<u8>, transforms: Vec<Transform>) -> Proposal {
-    Proposal {
-        next: None,
-        reserved: 0,
-        length: Length::Right,
-        number,
-        protocol,
-        spi_size: None,
-        count: None,
-        spi,
-        transforms,
-        rest: Vec::new(),
-    }
 }
 
 /// Protocols and their transforms, in the order in which they are offered.

@@ -71,7 +71,7 @@ impl Follower<'_> {
     }
 
     pub fn line(&mut self, line: &str, answer: String) {
-        self.cases.lines(format!("{line}\n").into_bytes(), &[answer]);
+        self.cases.words(line, &answer);
     }
 
     pub fn lent_new(&mut self) {

@@ -1,17 +1,14 @@
 //! Policy books: every count, every limit of a line's fields, cut short and with bytes left over.
 
-use super::Group;
+use super::{Group, PLAIN};
 use crate::cases::Cases;
 use crate::policy::{book_of, random_book, random_line, Book, Line, AH_WITH_ESP, ESP_ALONE, MAIN, MOST_LINES};
 use crate::random::Random;
 
 pub const GROUP: Group = Group {
     name: "books",
-    answers: &["book", "refused 8193", "bad line"],
+    answers: &[&["book", "refused 8193", "bad line"]],
     at_least: 20,
-    also: &[],
-    in_order: false,
-    occasions: &[],
     kinds: &[
         ("every two counts", every_two_counts),
         ("count at either place", counts_at_either_place),
@@ -27,6 +24,7 @@ pub const GROUP: Group = Group {
         ("small book", small_books),
         ("words of the line", words),
     ],
+    ..PLAIN
 };
 
 fn add(cases: &mut Cases, book: &Book) {
@@ -155,9 +153,7 @@ fn words(_: &mut Random, cases: &mut Cases) {
         ("book 010001518001010400000e11", "refused 8193"),
         ("book -", "refused 8193"),
     ];
-    for (line, answer) in good {
-        cases.lines(format!("{line}\n").into_bytes(), &[answer.to_string()]);
-    }
+    good.iter().for_each(|(line, answer)| cases.words(line, answer));
     let bad = [
         "book",
         "book ",
@@ -184,7 +180,5 @@ fn words(_: &mut Random, cases: &mut Cases) {
         "book 0 0",
         "book 1 0",
     ];
-    for line in bad {
-        cases.lines(format!("{line}\n").into_bytes(), &["bad line".to_string()]);
-    }
+    bad.iter().for_each(|line| cases.words(line, "bad line"));
 }

@@ -1,7 +1,7 @@
 //! Choices: offers at the line and beside it, sets, lines and transforms of which a later one suits, the order of the
 //! checks, and pairs of any book and any message.
 
-use super::Group;
+use super::{Group, PLAIN, READ_REFUSALS};
 use crate::cases::{bytes, refused, Case, Cases};
 use crate::checks::CHECKS;
 use crate::damage::{limits, with_field};
@@ -20,10 +20,8 @@ use crate::random::Random;
 
 pub const GROUP: Group = Group {
     name: "choices",
-    answers: ANSWERS,
+    answers: &[READ_REFUSALS, &["chosen", "refused 14", "refused 8193", "bad line"]],
     at_least: 20,
-    also: &[],
-    in_order: false,
     occasions: &[
         ("chosen with a set other than the first", 500, |case, answers| {
             chosen_numbers(answers).is_some_and(|chosen| firsts(case).first().is_some_and(|first| chosen[0] != first.0))
@@ -67,36 +65,11 @@ pub const GROUP: Group = Group {
         ("byte of a suiting offer changed", bytes_changed),
         (WORDS, words),
     ],
+    ..PLAIN
 };
 
 /// The kind of which not every case is a pair.
 pub const WORDS: &str = "words of the line";
-
-/// Every refusal of a reading, that of a choice and that of a book.
-const ANSWERS: &[&str] = &[
-    "chosen",
-    "refused 1",
-    "refused 2",
-    "refused 3",
-    "refused 4",
-    "refused 5",
-    "refused 6",
-    "refused 7",
-    "refused 8",
-    "refused 9",
-    "refused 10",
-    "refused 11",
-    "refused 13",
-    "refused 14",
-    "refused 15",
-    "refused 16",
-    "refused 18",
-    "refused 19",
-    "refused 29",
-    "refused 30",
-    "refused 8193",
-    "bad line",
-];
 
 /// The cases of one kind.
 pub fn of_kind(random: &mut Random, kind: &str) -> Vec<Case> {
@@ -209,8 +182,7 @@ fn examples(_: &mut Random, cases: &mut Cases) {
         ("0000", "0e10", "refused 14"),
         ("0100000e100000", "0e10", "refused 8193"),
     ] {
-        let line = format!("choose {book} {front}{attributes}{seconds}\n");
-        cases.lines(line.into_bytes(), &[answer.to_string()]);
+        cases.words(&format!("choose {book} {front}{attributes}{seconds}"), answer);
     }
 }
 
@@ -729,7 +701,7 @@ fn words(_: &mut Random, cases: &mut Cases) {
     for (line, answer) in
         [("choose - -", 8_193), ("choose 0000 -", 30), ("choose - 00", 8_193), ("choose 00 00", 8_193)]
     {
-        cases.lines(format!("{line}\n").into_bytes(), &[refused(answer)]);
+        cases.words(line, &refused(answer));
     }
     let bad = [
         "choose",
@@ -758,7 +730,5 @@ fn words(_: &mut Random, cases: &mut Cases) {
         "choose 0x00 -",
         "choose 0000 - - -",
     ];
-    for line in bad {
-        cases.lines(format!("{line}\n").into_bytes(), &["bad line".to_string()]);
-    }
+    bad.iter().for_each(|line| cases.words(line, "bad line"));
 }

@@ -1,7 +1,7 @@
 //! Deliveries to quick mode ends in every state: each check alone and before others, message 1 with any offer, message 2
 //! beside the offer, messages that are equal apart from their hash, and the longest that is taken.
 
-use super::{choices, Group};
+use super::{choices, Group, END_ANSWERS, LATER_STATES, PLAIN, READ_REFUSALS};
 use crate::cases::{refused, word, Case, Cases};
 use crate::checks::CHECKS;
 use crate::exchange::{
@@ -14,52 +14,20 @@ use crate::message::{
     message_of, opaque, random_payload, sa, Message, HASH, IDENTITY, INFORMATIONAL, MAIN_MODE, NAT_OA, NONCE, NOTICE,
     QUICK_MODE, SA, VENDOR,
 };
-use crate::offer::{fixed, transform, variable, Proposal, Value, AH, ESP, ISAKMP, SMALL};
-use crate::policy::{self, random_line, Book, AH_WITH_ESP, ESP_ALONE};
+use crate::offer::{fixed, proposal_of, transform, variable, Proposal, Value, AH, ESP, ISAKMP, SMALL};
+use crate::policy::{random_line, Book, AH_WITH_ESP, ESP_ALONE};
 use crate::random::Random;
 use Role::{Initiator, Responder};
 
 pub const GROUP: Group = Group {
     name: "deliveries",
     answers: &[
-        "fresh",
-        "room",
-        "send",
-        "nothing",
-        "kept",
-        "idle sends",
-        "sent sends",
-        "half sends set transforms initiator-spis responder-spis initiator-nonce responder-nonce",
-        "open sends set transforms initiator-spis responder-spis initiator-nonce responder-nonce",
-        "given-up sends",
-        "given-up sends set transforms initiator-spis responder-spis initiator-nonce responder-nonce",
-        "refused 1",
-        "refused 2",
-        "refused 3",
-        "refused 4",
-        "refused 5",
-        "refused 6",
-        "refused 7",
-        "refused 8",
-        "refused 9",
-        "refused 10",
-        "refused 11",
-        "refused 13",
-        "refused 14",
-        "refused 15",
-        "refused 16",
-        "refused 18",
-        "refused 19",
-        "refused 23",
-        "refused 29",
-        "refused 30",
-        "refused 8192",
-        "refused 8195",
-        "refused 8196",
+        END_ANSWERS,
+        LATER_STATES,
+        READ_REFUSALS,
+        &["refused 14", "refused 23", "refused 8192", "refused 8195", "refused 8196"],
     ],
     at_least: 50,
-    also: &[],
-    in_order: false,
     occasions: &[("ESP before AH agreed", 100, |_, answers| {
         let responder = last_states(answers).map_or("", |[_, responder]| responder.as_str());
         responder.contains(SPIS_OF_ESP_BEFORE_AH)
@@ -76,6 +44,7 @@ pub const GROUP: Group = Group {
         ("message sent back to its writer", sent_back),
         ("each message in each state", each_message_in_each_state),
     ],
+    ..PLAIN
 };
 
 /// The responder of `offers_of_the_choices` has these two SPIs.
@@ -521,7 +490,7 @@ fn longest_messages(random: &mut Random, cases: &mut Cases) {
             responder.book.quick = vec![line];
             let mut offer = offer_of(proposals(1, &line, &given[0]));
             let filler = transform(1, 1, vec![variable(9, Vec::new())]);
-            offer.proposals.push(policy::proposal_of(2, ESP, vec![1; 4], vec![filler]));
+            offer.proposals.push(proposal_of(2, ESP, vec![1; 4], vec![filler]));
             let mut message = long_message(&given[0], ID, offer, &identities);
             let more = size - message.encode().len();
             let filled = variable(9, random.bytes(more));

@@ -1,7 +1,7 @@
 //! Each kind of damage at every place of many sound trees. Some kinds always spoil a tree and some never do; where it
 //! hangs on the bytes around, the two programs must agree.
 
-use super::{Group, DER_ANSWERS};
+use super::{Group, DER_ANSWERS, PLAIN};
 use crate::cases::Cases;
 use crate::random::Random;
 use crate::tree::{constructed, random_tree, sound_answer, Inside, Place, Tree, CONSTRUCTED, DEEPEST, NAME_TAG};
@@ -10,9 +10,6 @@ pub const GROUP: Group = Group {
     name: "der-damage",
     answers: DER_ANSWERS,
     at_least: 1,
-    also: &[],
-    in_order: false,
-    occasions: &[],
     kinds: &[
         ("byte changed", byte_changed),
         ("byte removed", byte_removed),
@@ -27,6 +24,7 @@ pub const GROUP: Group = Group {
         ("byte removed from a list, lengths put right", byte_removed_from_a_list),
         ("byte inserted into a list, lengths put right", byte_inserted_into_a_list),
     ],
+    ..PLAIN
 };
 
 /// Sound and lawful trees of every depth, most of them short.

@@ -1,6 +1,6 @@
 //! Every form of a length at its limits: only the shortest form of at most three bytes is lawful, and it must be true.
 
-use super::{Group, DER_ANSWERS, MOST_DER_BYTES};
+use super::{Group, DER_ANSWERS, MOST_DER_BYTES, PLAIN};
 use crate::cases::Cases;
 use crate::random::Random;
 use crate::tree::{filling, length_in, primitive, shortest_size, sound_answer, Tree, CONSTRUCTED, NAME_TAG};
@@ -9,9 +9,6 @@ pub const GROUP: Group = Group {
     name: "der-lengths",
     answers: DER_ANSWERS,
     at_least: 1,
-    also: &[],
-    in_order: false,
-    occasions: &[],
     kinds: &[
         ("short lengths in every form", short_lengths),
         ("long lengths in every form", long_lengths),
@@ -20,6 +17,7 @@ pub const GROUP: Group = Group {
         ("every two-byte length", every_two_byte_length),
         ("length past its own list into the next element", length_past_its_list),
     ],
+    ..PLAIN
 };
 
 const TAGS: [u8; 5] = [NAME_TAG, 0x31, 0xa0, 0x04, 0x10];

@@ -1,6 +1,6 @@
 //! Short strings over small alphabets, whole or at random: what a maker of trees would not think of.
 
-use super::{Group, DER_ANSWERS};
+use super::{Group, DER_ANSWERS, PLAIN};
 use crate::cases::{strings, Cases};
 use crate::random::Random;
 use crate::tree::{primitive, NAME_TAG};
@@ -9,15 +9,13 @@ pub const GROUP: Group = Group {
     name: "der-small",
     answers: DER_ANSWERS,
     at_least: 1,
-    also: &[],
-    in_order: false,
-    occasions: &[],
     kinds: &[
         ("every string to 3 bytes", every_string_to_3_bytes),
         ("every string of 4 and 5 bytes", every_string_of_4_and_5_bytes),
         ("random string", random_strings),
         ("random list in a name", random_lists),
     ],
+    ..PLAIN
 };
 
 fn every_string_to_3_bytes(_: &mut Random, cases: &mut Cases) {

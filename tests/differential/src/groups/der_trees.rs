@@ -1,6 +1,6 @@
 //! Sound trees of every depth from 1 to 9, narrow, wide and long; only the depth decides which are lawful.
 
-use super::{Group, DER_ANSWERS, MOST_DER_BYTES};
+use super::{Group, DER_ANSWERS, MOST_DER_BYTES, PLAIN};
 use crate::cases::Cases;
 use crate::random::Random;
 use crate::tree::{
@@ -11,9 +11,6 @@ pub const GROUP: Group = Group {
     name: "der-trees",
     answers: DER_ANSWERS,
     at_least: 1,
-    also: &[],
-    in_order: false,
-    occasions: &[],
     kinds: &[
         ("random tree", random_trees),
         ("every tag at every depth", every_tag_at_every_depth),
@@ -23,6 +20,7 @@ pub const GROUP: Group = Group {
         ("one long element at every depth", one_long_element_at_every_depth),
         ("longest tree", longest_tree),
     ],
+    ..PLAIN
 };
 
 fn add(cases: &mut Cases, tree: &Tree) {

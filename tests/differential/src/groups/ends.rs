@@ -1,7 +1,7 @@
 //! Quick mode ends line by line: what a fresh end and a begin are refused for and in which order, ticks, rooms, nonces
 //! handed back, and the words of these lines.
 
-use super::Group;
+use super::{Group, END_ANSWERS, LATER_STATES, PLAIN};
 use crate::cases::{refused, word, Cases};
 use crate::checks::CHECKS;
 use crate::exchange::{
@@ -22,37 +22,22 @@ use Role::{Initiator, Responder};
 pub const GROUP: Group = Group {
     name: "ends",
     answers: &[
-        "fresh",
-        "room",
-        "send",
-        "nothing",
-        "nonce",
-        "none",
-        "kept",
-        "idle sends",
-        "sent sends",
-        "refused 4",
-        "refused 9",
-        "refused 11",
-        "refused 14",
-        "refused 16",
-        "refused 18",
-        "refused 8192",
-        "refused 8193",
-        "refused 8195",
-        "refused 8196",
-        "bad line",
+        END_ANSWERS,
+        &[
+            "nonce",
+            "none",
+            "bad line",
+            "refused 4",
+            "refused 9",
+            "refused 11",
+            "refused 14",
+            "refused 16",
+            "refused 18",
+        ],
+        &["refused 8192", "refused 8193", "refused 8195", "refused 8196"],
     ],
     at_least: 50,
-    also: &[
-        "refused 23",
-        "half sends set transforms initiator-spis responder-spis initiator-nonce responder-nonce",
-        "open sends set transforms initiator-spis responder-spis initiator-nonce responder-nonce",
-        "given-up sends",
-        "given-up sends set transforms initiator-spis responder-spis initiator-nonce responder-nonce",
-    ],
-    in_order: false,
-    occasions: &[],
+    also: &[LATER_STATES, &["refused 23"]],
     kinds: &[
         ("checks of a fresh end", checks_of_fresh),
         ("limits of a fresh end", limits_of_fresh),
@@ -67,6 +52,7 @@ pub const GROUP: Group = Group {
         ("words of the lines", words),
         ("good line spoiled", good_lines_spoiled),
     ],
+    ..PLAIN
 };
 
 /// A line with some of its faults: the number of the first is the answer, or what is done without any.

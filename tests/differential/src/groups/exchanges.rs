@@ -1,7 +1,7 @@
 //! Whole exchanges at random: honest ones, ones over a network that loses, repeats and reorders, and ones in which
 //! anything happens. After every line the state and the kept buffers of its end are compared too.
 
-use super::Group;
+use super::{Group, END_ANSWERS, LATER_STATES, PLAIN, READ_REFUSALS};
 use crate::cases::Cases;
 use crate::exchange::{
     last_states, random_identities, random_message_id, suiting_given, Followed, Given, Identities, Role, State, ROLES,
@@ -25,10 +25,13 @@ const _: () = assert!(EXCHANGES_MADE >= 20_000);
 
 pub const GROUP: Group = Group {
     name: "exchanges",
-    answers: ANSWERS,
+    answers: &[
+        END_ANSWERS,
+        LATER_STATES,
+        READ_REFUSALS,
+        &["refused 14", "refused 23", "refused 8192", "refused 8193", "refused 8195", "refused 8196"],
+    ],
     at_least: 50,
-    also: &[],
-    in_order: false,
     occasions: &[
         ("both open", EXCHANGES_MADE / 3, |_, answers| both_open(answers)),
         ("both open with AH and ESP", 1_000, |_, answers| both_open(answers) && transforms(answers) == 2),
@@ -53,46 +56,8 @@ pub const GROUP: Group = Group {
         ("messages changed on their way", changed_on_their_way),
         ("anything in any state", anything),
     ],
+    ..PLAIN
 };
-
-/// Every number that an end can give, every state with and without agreed values, and the other answers.
-const ANSWERS: &[&str] = &[
-    "fresh",
-    "room",
-    "send",
-    "nothing",
-    "kept",
-    "idle sends",
-    "sent sends",
-    "half sends set transforms initiator-spis responder-spis initiator-nonce responder-nonce",
-    "open sends set transforms initiator-spis responder-spis initiator-nonce responder-nonce",
-    "given-up sends",
-    "given-up sends set transforms initiator-spis responder-spis initiator-nonce responder-nonce",
-    "refused 1",
-    "refused 2",
-    "refused 3",
-    "refused 4",
-    "refused 5",
-    "refused 6",
-    "refused 7",
-    "refused 8",
-    "refused 9",
-    "refused 10",
-    "refused 11",
-    "refused 13",
-    "refused 14",
-    "refused 15",
-    "refused 16",
-    "refused 18",
-    "refused 19",
-    "refused 23",
-    "refused 29",
-    "refused 30",
-    "refused 8192",
-    "refused 8193",
-    "refused 8195",
-    "refused 8196",
-];
 
 const WITH: &str = "with identities";
 const WITHOUT: &str = "without identities";

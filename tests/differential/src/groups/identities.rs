@@ -1,6 +1,6 @@
 //! Identities: every type with every size, names sound and spoiled, and the words of the line.
 
-use super::Group;
+use super::{Group, PLAIN};
 use crate::cases::Cases;
 use crate::identity::{addresses, body, random_body, random_element, random_name, ELEMENT, NAME, TEXTS};
 use crate::message::{message_of, opaque, IDENTITY, MAIN_MODE, QUICK_MODE, SIGNATURE};
@@ -10,11 +10,8 @@ use crate::tree::{constructed, primitive, random_tree, wrapped, Tree, DEEPEST, N
 
 pub const GROUP: Group = Group {
     name: "identities",
-    answers: &["done", "refused 18", "read", "bad line"],
+    answers: &[&["done", "refused 18", "read", "bad line"]],
     at_least: 50,
-    also: &[],
-    in_order: false,
-    occasions: &[],
     kinds: &[
         ("lawful identity", lawful_identities),
         ("every type and size", every_type_and_size),
@@ -28,6 +25,7 @@ pub const GROUP: Group = Group {
         ("identity in a message", identities_in_messages),
         ("words of the line", words),
     ],
+    ..PLAIN
 };
 
 const PHASES: [u8; 2] = [MAIN_MODE, QUICK_MODE];
@@ -190,9 +188,7 @@ fn words(_: &mut Random, cases: &mut Cases) {
         ("identity 2 010000010a000001", "refused 18"),
         ("identity 2 090000003000", "done"),
     ];
-    for (line, answer) in good {
-        cases.lines(format!("{line}\n").into_bytes(), &[answer.to_string()]);
-    }
+    good.iter().for_each(|(line, answer)| cases.words(line, answer));
     let exchanges =
         ["0", "1", "3", "5", "02", "032", "+2", "2.", "2,", "3 2", "33", "-", "", "0x2", "20", "256", "258", "two"];
     let of_exchange = exchanges.iter().map(|exchange| format!("identity {exchange} 010000000a000001"));
@@ -231,6 +227,6 @@ fn words(_: &mut Random, cases: &mut Cases) {
         cases.lines(line, &[if byte == b'2' { "done" } else { "bad line" }.to_string()]);
     }
     for line in of_exchange.chain(others.map(str::to_string)) {
-        cases.lines(format!("{line}\n").into_bytes(), &["bad line".to_string()]);
+        cases.words(&line, "bad line");
     }
 }

@@ -1,17 +1,14 @@
 //! The grammar of lines: which get no answer, which get `bad line`, how long one may be, and where input ends.
 
-use super::{Group, MOST_DER_BYTES};
+use super::{Group, MOST_DER_BYTES, PLAIN};
 use crate::cases::{word, Cases};
 use crate::random::Random;
 use crate::tree::{primitive, wrapped};
 
 pub const GROUP: Group = Group {
     name: "lines",
-    answers: &["bad line", "name", "element", "none", "keepalive", "key-exchange", "esp", "refused 16"],
+    answers: &[&["bad line", "name", "element", "none", "keepalive", "key-exchange", "esp", "refused 16"]],
     at_least: 1,
-    also: &[],
-    in_order: false,
-    occasions: &[],
     kinds: &[
         ("good line", good_lines),
         ("bad line", bad_lines),
@@ -24,6 +21,7 @@ pub const GROUP: Group = Group {
         ("long line at the end of input", long_lines_at_the_end_of_input),
         ("mixed lines", mixed_lines),
     ],
+    ..PLAIN
 };
 
 /// A line without its line end, and its answer if it gets one.

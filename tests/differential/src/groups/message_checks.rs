@@ -1,6 +1,6 @@
 //! Header and chain: each check by itself, at its limit and one beyond, and any two broken at once.
 
-use super::{Group, READ_ANSWERS};
+use super::{Group, PLAIN, READ_ANSWERS};
 use crate::cases::{refused, Cases};
 use crate::checks::CHECKS;
 use crate::layout::Length;
@@ -16,9 +16,6 @@ pub const GROUP: Group = Group {
     name: "message-checks",
     answers: READ_ANSWERS,
     at_least: 50,
-    also: &[],
-    in_order: false,
-    occasions: &[],
     kinds: &[
         ("message's length", message_lengths),
         ("every version", every_version),
@@ -43,6 +40,7 @@ pub const GROUP: Group = Group {
         ("any two checks", any_two_checks),
         ("any three checks", any_three_checks),
     ],
+    ..PLAIN
 };
 
 const FLAGS: [u8; 2] = [0, 1];

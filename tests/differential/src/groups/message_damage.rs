@@ -1,7 +1,7 @@
 //! Messages of every shape, damaged in every field and at every byte. Where the answer hangs on the bytes around, the
 //! two programs must agree.
 
-use super::{Group, READ_ANSWERS};
+use super::{Group, PLAIN, READ_ANSWERS};
 use crate::cases::{refused, Cases};
 use crate::damage::{limits, replaced, with_field, MENDINGS};
 use crate::message::{
@@ -15,9 +15,6 @@ pub const GROUP: Group = Group {
     name: "message-damage",
     answers: READ_ANSWERS,
     at_least: 50,
-    also: &[],
-    in_order: false,
-    occasions: &[],
     kinds: &[
         ("field at its limits", fields_at_their_limits),
         ("two fields at their limits", two_fields_at_their_limits),
@@ -29,6 +26,7 @@ pub const GROUP: Group = Group {
         ("other exchange or flag", other_exchanges_and_flags),
         ("random bytes behind a header", random_chains),
     ],
+    ..PLAIN
 };
 
 /// One message of each shape.

@@ -1,6 +1,6 @@
 //! Lawful messages: every shape of the standard's figures 18 to 26, informational ones, and chains of any types.
 
-use super::Group;
+use super::{Group, PLAIN};
 use crate::cases::Cases;
 use crate::message::{
     message_of, opaque, random_message, BLOCK, CERTIFICATE, CERTIFICATE_REQUEST, DELETION, EXCHANGES, HASH,
@@ -12,11 +12,8 @@ use crate::random::Random;
 
 pub const GROUP: Group = Group {
     name: "messages",
-    answers: &["read"],
+    answers: &[&["read"]],
     at_least: 50,
-    also: &[],
-    in_order: false,
-    occasions: &[],
     kinds: &[
         ("shape of a figure", shapes_of_the_figures),
         ("informational message", informational_messages),
@@ -24,6 +21,7 @@ pub const GROUP: Group = Group {
         ("offer of every size", offers_of_every_size),
         ("long message", long_messages),
     ],
+    ..PLAIN
 };
 
 /// A shape: exchange, flag, whether the responder has no cookie yet, and the payloads.

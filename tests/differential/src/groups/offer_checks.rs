@@ -1,6 +1,6 @@
 //! SA payloads: each check of a proposal, a transform and an attribute by itself, at its limit and one beyond.
 
-use super::Group;
+use super::{Group, OFFER_ANSWERS, PLAIN};
 use crate::cases::Cases;
 use crate::checks::{Check, CHECKS};
 use crate::layout::Length;
@@ -14,11 +14,8 @@ use crate::random::Random;
 
 pub const GROUP: Group = Group {
     name: "offer-checks",
-    answers: &["read", "refused 2", "refused 3", "refused 10", "refused 11", "refused 13", "refused 15"],
+    answers: OFFER_ANSWERS,
     at_least: 50,
-    also: &[],
-    in_order: false,
-    occasions: &[],
     kinds: &[
         ("bytes left for the SA's own fields", bytes_left_for_own_fields),
         ("DOI and situation", doi_and_situation),
@@ -53,6 +50,7 @@ pub const GROUP: Group = Group {
         ("check broken in an earlier transform", earlier_transforms),
         ("check broken in an earlier attribute", earlier_attributes),
     ],
+    ..PLAIN
 };
 
 const PHASES: [u8; 2] = [MAIN_MODE, QUICK_MODE];

@@ -1,6 +1,6 @@
 //! Offers with several sets, transforms and attributes, damaged in every field and at every byte inside the SA payload.
 
-use super::{Group, READ_ANSWERS};
+use super::{Group, OFFER_ANSWERS, PLAIN, READ_ANSWERS};
 use crate::cases::Cases;
 use crate::damage::{limits, replaced, with_field, MENDINGS};
 use crate::layout::{Layout, Length, Span};
@@ -10,11 +10,9 @@ use crate::random::Random;
 
 pub const GROUP: Group = Group {
     name: "offer-damage",
-    answers: &["read", "refused 2", "refused 3", "refused 10", "refused 11", "refused 13", "refused 15"],
+    answers: OFFER_ANSWERS,
     at_least: 50,
     also: READ_ANSWERS,
-    in_order: false,
-    occasions: &[],
     kinds: &[
         ("field at its limits", fields_at_their_limits),
         ("two fields at their limits", two_fields_at_their_limits),
@@ -23,6 +21,7 @@ pub const GROUP: Group = Group {
         ("bytes put in", bytes_put_in),
         ("items moved", items_moved),
     ],
+    ..PLAIN
 };
 
 const SIZES: Sizes = Sizes { proposals: 4, transforms: 3, attributes: 5 };

@@ -1,21 +1,19 @@
 //! Port 4500: every short message over a small alphabet, and long ones with the marker whole or spoiled.
 
-use super::Group;
+use super::{Group, PLAIN};
 use crate::cases::{strings, Cases};
 use crate::random::Random;
 
 pub const GROUP: Group = Group {
     name: "port",
-    answers: &["keepalive", "key-exchange", "esp", "refused 16"],
+    answers: &[&["keepalive", "key-exchange", "esp", "refused 16"]],
     at_least: 1,
-    also: &[],
-    in_order: false,
-    occasions: &[],
     kinds: &[
         ("every message to 6 bytes", every_message_to_6_bytes),
         ("every single byte", every_single_byte),
         ("long message", long_messages),
     ],
+    ..PLAIN
 };
 
 fn every_message_to_6_bytes(_: &mut Random, cases: &mut Cases) {

@@ -1,6 +1,6 @@
 //! Replies to the pairs of book and message that the choices are made of, with own SPIs and rooms at their limits.
 
-use super::{choices, Group};
+use super::{choices, Group, PLAIN, READ_REFUSALS};
 use crate::cases::{refused, word, Case, Cases};
 use crate::message::sa;
 use crate::offer::{Offer, AH, ESP, ISAKMP};
@@ -8,10 +8,9 @@ use crate::random::Random;
 
 pub const GROUP: Group = Group {
     name: "replies",
-    answers: &["reply", "refused 11", "refused 14", "refused 16", "refused 8192", "refused 8193", "bad line"],
+    answers: &[&["reply", "refused 11", "refused 14", "refused 16", "refused 8192", "refused 8193", "bad line"]],
     at_least: 50,
-    also: super::READ_REFUSALS,
-    in_order: false,
+    also: &[READ_REFUSALS],
     occasions: &[
         ("pair of a book and a message", 100_000, |case, answers| case.kind == PAIRS && !answers.is_empty()),
         ("replies with AH before ESP", 500, |_, answers| protocols(answers) == [AH, ESP]),
@@ -25,6 +24,7 @@ pub const GROUP: Group = Group {
         ("which check comes first", first_checks),
         ("words of the line", words),
     ],
+    ..PLAIN
 };
 
 const PAIRS: &str = "pair of the choices";
@@ -168,9 +168,9 @@ fn words(_: &mut Random, cases: &mut Cases) {
         ("reply 0100000E1000 256 256 4096 fF", 30),
     ];
     for (line, number) in good {
-        cases.one_line(format!("{line}\n"), Some(refused(number)));
+        cases.words(line, &refused(number));
     }
-    let bad_line = |cases: &mut Cases, line: &str| cases.one_line(format!("{line}\n"), Some("bad line".to_string()));
+    let bad_line = |cases: &mut Cases, line: &str| cases.words(line, "bad line");
     let bad = [
         "reply",
         "reply 0000",

@@ -1,23 +1,23 @@
 //! The words of lines about sequence numbers, and that a bad line leaves every record as it was.
 
-use super::Group;
+use super::{Group, PLAIN};
 use crate::cases::Cases;
 use crate::random::Random;
 use crate::sequence::{Follower, Key, ESP};
 
 pub const GROUP: Group = Group {
     name: "sequence-lines",
-    answers: &["done", "accepted", "number", "loss", "bad line"],
+    answers: &[&["done", "accepted", "number", "loss", "bad line"]],
     at_least: 5,
-    also: &["refused 8194", "refused 8197", "refused 24", "refused 8200", "refused 10", "refused 11"],
+    also: &[&["refused 8194", "refused 8197", "refused 24", "refused 8200", "refused 10", "refused 11"]],
     in_order: true,
-    occasions: &[],
     kinds: &[
         ("bad line", bad_lines),
         ("good line spoiled", good_lines_spoiled),
         ("every byte as a protocol", every_byte_as_a_protocol),
         ("number of a lent record", lent_numbers),
     ],
+    ..PLAIN
 };
 
 const KEY: Key = Key { destination: 0xc000_02ab, protocol: ESP, spi: 0x1234_abcd };

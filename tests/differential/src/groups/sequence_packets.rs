@@ -1,6 +1,6 @@
 //! Packets: every length, every length field, every protocol, and which check comes first.
 
-use super::Group;
+use super::{Group, PLAIN};
 use crate::cases::{refused, Cases};
 use crate::random::Random;
 use crate::sequence::{ah, esp, random_key, Follower, Key, AH, ESP};
@@ -8,20 +8,11 @@ use crate::sequence::{ah, esp, random_key, Follower, Key, AH, ESP};
 pub const GROUP: Group = Group {
     name: "sequence-packets",
     answers: &[
-        "done",
-        "accepted",
-        "loss",
-        "refused 10",
-        "refused 11",
-        "refused 16",
-        "refused 24",
-        "refused 8194",
-        "refused 8197",
+        &["done", "accepted", "loss", "refused 10", "refused 11", "refused 16", "refused 24"],
+        &["refused 8194", "refused 8197"],
     ],
     at_least: 20,
-    also: &[],
     in_order: true,
-    occasions: &[],
     kinds: &[
         ("every AH length and length field", every_ah_length),
         ("AH length field at its limits", ah_length_fields_at_their_limits),
@@ -31,6 +22,7 @@ pub const GROUP: Group = Group {
         ("order of checks", order_of_checks),
         ("where the fields lie", where_the_fields_lie),
     ],
+    ..PLAIN
 };
 
 /// A packet that is well formed takes the next number; any other is 16 and takes none.

@@ -1,6 +1,6 @@
 //! The table of lives: 64 keys and 65, keys that differ in one part only, removal and reuse, and calls at random.
 
-use super::Group;
+use super::{Group, PLAIN};
 use crate::cases::Cases;
 use crate::random::Random;
 use crate::sequence::{number_near, random_key, Follower, Key, AH, ESP, LOWEST_SPI, MOST_ENTRIES};
@@ -9,22 +9,11 @@ pub const GROUP: Group = Group {
     name: "sequence-table",
     // 8198 would take 4,294,967,295 lines.
     answers: &[
-        "done",
-        "accepted",
-        "number",
-        "loss",
-        "refused 10",
-        "refused 11",
-        "refused 24",
-        "refused 8194",
-        "refused 8197",
-        "refused 8199",
-        "refused 8200",
+        &["done", "accepted", "number", "loss", "refused 10", "refused 11", "refused 24"],
+        &["refused 8194", "refused 8197", "refused 8199", "refused 8200"],
     ],
     at_least: 50,
-    also: &[],
     in_order: true,
-    occasions: &[],
     kinds: &[
         ("absent key", absent_keys),
         ("checks of adding", checks_of_adding),
@@ -35,6 +24,7 @@ pub const GROUP: Group = Group {
         ("call at random", calls_at_random),
         ("walk of many lives", walks_of_many_lives),
     ],
+    ..PLAIN
 };
 
 /// Every call but adding.

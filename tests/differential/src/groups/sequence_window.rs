@@ -1,17 +1,15 @@
 //! One receive record, lent: walks near the window's edges, and every two numbers after each other.
 
-use super::Group;
+use super::{Group, PLAIN};
 use crate::cases::Cases;
 use crate::random::Random;
 use crate::sequence::{number_near, Follower};
 
 pub const GROUP: Group = Group {
     name: "sequence-window",
-    answers: &["done", "accepted", "refused 24", "refused 8194", "refused 8197", "loss"],
+    answers: &[&["done", "accepted", "refused 24", "refused 8194", "refused 8197", "loss"]],
     at_least: 50,
-    also: &[],
     in_order: true,
-    occasions: &[],
     kinds: &[
         ("record before a first `lent new`", record_before_a_first_new),
         ("two numbers after each other", two_numbers),
@@ -20,6 +18,7 @@ pub const GROUP: Group = Group {
         ("walk", walks),
         ("walk to the end of all numbers", walks_to_the_end),
     ],
+    ..PLAIN
 };
 
 fn record_before_a_first_new(_: &mut Random, cases: &mut Cases) {

@@ -1,6 +1,6 @@
 //! The verdict programs: a book and a message behind it, each kind of either, and inputs around the bytes that count.
 
-use super::{choices, Group};
+use super::{choices, Group, PLAIN, READ_REFUSALS};
 use crate::cases::{refused, Case, Cases};
 use crate::checks::CHECKS;
 use crate::message::{
@@ -12,10 +12,9 @@ use crate::random::Random;
 
 pub const GROUP: Group = Group {
     name: "verdicts",
-    answers: ANSWERS,
+    // The last line of what is printed: a choice, a payload where there is no SA payload, or a refusal.
+    answers: &[READ_REFUSALS, &["chosen set line transforms", "payload at length", "refused 14", "refused 8193"]],
     at_least: 10,
-    also: &[],
-    in_order: false,
     occasions: &[
         ("inputs", 4_000, |_, answers| !answers.is_empty()),
         ("nothing suits, said behind the payloads", 100, |_, answers| {
@@ -41,33 +40,8 @@ pub const GROUP: Group = Group {
         ("bytes around those that count", around_those_that_count),
         ("input that comes in pieces", in_pieces),
     ],
+    ..PLAIN
 };
-
-/// The last line of what is printed: a choice, a payload where there is no SA payload, or a refusal.
-const ANSWERS: &[&str] = &[
-    "chosen set line transforms",
-    "payload at length",
-    "refused 1",
-    "refused 2",
-    "refused 3",
-    "refused 4",
-    "refused 5",
-    "refused 6",
-    "refused 7",
-    "refused 8",
-    "refused 9",
-    "refused 10",
-    "refused 11",
-    "refused 13",
-    "refused 14",
-    "refused 15",
-    "refused 16",
-    "refused 18",
-    "refused 19",
-    "refused 29",
-    "refused 30",
-    "refused 8193",
-];
 
 /// "The first 8,275 bytes count."
 const COUNTED: usize = 8_275;
