@@ -11,6 +11,7 @@ use Rattle.wire.specs.Tests.{if_then_else_}
 unfoldable pub sentFixed : List ℕ → Bool
 sentFixed s = leb 0x80 (getD s 0 0)
 
+-- the type is what the other 15 bits spell
 unfoldable pub attributeType : List ℕ → ℕ
 attributeType s = numberAt 2 s 0 % 0x8000
 
@@ -18,6 +19,7 @@ attributeType s = numberAt 2 s 0 % 0x8000
 unfoldable pub attributeSize : List ℕ → ℕ
 attributeSize s = if sentFixed s then 4 else 4 + numberAt 2 s 2
 
+-- "Out of bounds"
 unfoldable pub outOfBounds : List ℕ → Bool
 outOfBounds s = ltb (length s) 4 || ltb (length s) (attributeSize s)
 

@@ -56,6 +56,7 @@ padWrong m = eqb (flagsOf m) 1 && not (eqb (length (drop 28 m) % 16) 0)
 unfoldable pub noPayload : List ℕ → Bool
 noPayload m = eqb (firstPayload m) 0
 
+-- the checks in this order: 0, or the refusal; 5 and 6 are the table's "major, minor version not 1"
 unfoldable pub headerCode : List ℕ → ℕ
 headerCode m =
     if lengthWrong m then 30

@@ -37,12 +37,13 @@ quickData type s =
 unfoldable pub portZero : List ℕ → Bool
 portZero s = eqb (getD s 1 0) 0 && eqb (numberAt 2 s 2) 0
 
+-- what each exchange allows
 unfoldable pub lawful : ℕ → List ℕ → Bool
 lawful exchange s =
     if eqb exchange 2 then portZero s && mainData (getD s 0 0) (drop 4 s)
     else if eqb exchange 32 then quickData (getD s 0 0) (drop 4 s)
     else false
 
--- "fewer: 18 .. Else 18"
+-- "fewer: 18 .. Else 18": 0, or the refusal
 unfoldable pub identity : ℕ → List ℕ → ℕ
 identity exchange s = if leb 4 (length s) && lawful exchange s then 0 else 18

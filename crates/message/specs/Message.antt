@@ -19,6 +19,7 @@ pub data Reading : Type 0 where
   refused : ℕ → Reading
   payloads : List Payload → Reading
 
+-- a payload, and then what is found behind it
 unfoldable pub first : Payload → Reading → Reading
 first p (refused number) = refused number
 first p (payloads ps) = payloads (p ∷ ps)
@@ -39,7 +40,7 @@ reading m =
     if not (eqb (headerCode m) 0) then refused (headerCode m)
     else chain 32 (exchangeOf m) (flagsOf m) false (firstPayload m) 28 (drop 28 m)
 
--- what is answered: before payloads were found, and then these
+-- what is answered: exchange, and how many payloads; so many were found before this part of the chain, none before the whole
 unfoldable pub counted : ℕ → ℕ → Reading → Message
 counted exchange before (refused number) = Refused number
 counted exchange before (payloads ps) = Read exchange (before + length ps)

@@ -42,6 +42,7 @@ protocolWrong exchange protocol = not (eqb exchange 2 && eqb protocol 1 || eqb e
 unfoldable pub spiWrong : ℕ → List ℕ → Bool
 spiWrong exchange s = not (eqb exchange 2 && eqb (getD s 6 0) 0 || eqb exchange 32 && eqb (getD s 6 0) 4 && leb 256 (numberAt 4 s 8))
 
+-- "the announced count, 1 to 8"
 unfoldable pub countWrong : List ℕ → Bool
 countWrong s = not (leb 1 (getD s 7 0) && leb (getD s 7 0) 8)
 

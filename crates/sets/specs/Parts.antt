@@ -1,4 +1,4 @@
--- What later layers take out of an SA payload's body that reads. Of any other body these give something, and nothing is said of it.
+-- What later layers take out of an SA payload's body that reads. Of any other body these give something too, which no rule asks for.
 use Prim.Native.Nat.{ℕ, zero, suc, _+_}
 use mathlib.Core.List.{List, []}
 use mathlib.Core.Bool.{Bool, true, false, not, _||_}

@@ -20,6 +20,7 @@ bytesOf (suc n) x = bytesOf n (x / 256) ++ (x % 256 ∷ [])
 unfoldable pub head : ℕ → ℕ → List ℕ
 head next size = next ∷ 0 ∷ bytesOf 2 size
 
+-- such a beginning with the rest behind it, the length counting both
 unfoldable pub headed : ℕ → List ℕ → List ℕ
 headed next rest = head next (4 + length rest) ++ rest
 
