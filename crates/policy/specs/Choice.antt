@@ -57,18 +57,21 @@ setFrom (suc n) k exchange book body =
 unfoldable pub chooseFrom : ℕ → List ℕ → List ℕ → Choice
 chooseFrom exchange book body = setFrom (setCount body) 0 exchange book body
 
--- the body of the SA payload among the n payloads from k on; no bytes where there is none
+-- the body of payload k, counted from 0
 unfoldable pub bodyAt : ℕ → List ℕ → List ℕ
 bodyAt k m = drop 4 (take (payloadAt k m .length) (drop (payloadAt k m .start) m))
 
+-- the body of the first SA payload among the n payloads from k on; no bytes where there is none
 unfoldable pub saFrom : ℕ → ℕ → List ℕ → List ℕ
 saFrom zero k m = []
 saFrom (suc n) k m = if eqb (payloadAt k m .kind) 1 then bodyAt k m else saFrom n (k + 1) m
 
+-- the refusal of a message that does not read; it is asked of no other
 unfoldable pub messageRefusal : Message → Choice
 messageRefusal (read.Refused number) = Refused number
 messageRefusal (read.Read exchange count) = Refused 0
 
+-- "message, no SA payload (16), then 14"
 unfoldable pub messageChoice : List ℕ → List ℕ → Message → Choice
 messageChoice book m (read.Refused number) = Refused number
 messageChoice book m (read.Read exchange count) =

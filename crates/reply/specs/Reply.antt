@@ -70,7 +70,7 @@ replied book m ah esp buffer =
     if ltb (length buffer) 2048 then (Refused 8192, buffer)
     else choiceReplied ah esp m (choice book m) buffer
 
--- the number of a choice that was refused
+-- the refusal of a choice that was refused; it is asked of no other
 unfoldable pub choiceRefusal : Choice → Outcome
 choiceRefusal (choices.Refused number) = Refused number
 choiceRefusal (choices.Chosen number line transforms) = Refused 0

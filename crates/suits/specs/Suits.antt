@@ -54,7 +54,7 @@ transformSuits exchange i book p k =
     if eqb exchange 2 then mainSuits (mainSeconds i book) (transform k p)
     else quickSuits (quickProtocols i book) (quickMode i book) (quickSeconds i book) (protocol p) (transform k p)
 
--- the lowest transform that suits, counted from 1 among the n from k on; 0 where none does
+-- the lowest transform that suits: numbers rise, so it is the first; counted from 1 among the n from k on, 0 where none does
 unfoldable pub lowestFrom : ℕ → ℕ → ℕ → ℕ → List ℕ → List ℕ → ℕ
 lowestFrom zero k exchange i book p = 0
 lowestFrom (suc n) k exchange i book p =
