@@ -70,7 +70,7 @@ ownOf role icookie rcookie book ah esp nonce = record {
   nonce = paste (replicate 256 0) 0 nonce;
 }
 
--- a refusal comes with an end that holds nothing
+-- a refusal comes with an end that holds nothing but its role
 unfoldable pub fresh : Role → ℕ → ℕ → List ℕ → ℕ → ℕ → List ℕ → Made
 fresh role icookie rcookie book ah esp nonce =
     if eqb (freshCode icookie rcookie book ah esp nonce) 0

@@ -44,6 +44,17 @@ small sent got output = ltb (length sent) 2048 || ltb (length got) 2048 || ltb (
 unfoldable pub kept : ℕ → List ℕ → List ℕ
 kept size buffer = take (min size 2048) buffer
 
+-- what a call changed, but in another state
+unfoldable pub withState : State → Progress → Progress
+withState state progress = record {
+  state = state;
+  sends = progress .sends;
+  id = progress .id;
+  sentsize = progress .sentsize;
+  gotsize = progress .gotsize;
+  agreed = progress .agreed;
+}
+
 module _ (end : End) (sent got output : List ℕ) where
   abbrev pub refusing : ℕ → After
   refusing number = record { step = record { end = end; answer = Refused number }; sent = sent; got = got; output = output }
@@ -108,51 +119,9 @@ begun end id first second sent got output =
     got
     else refusing end sent got output (beginCode end id first second (small sent got output))
 
--- ---- tick
-
--- "8192, 8196, Idle 8195"
-unfoldable pub tickCode : State → Bool → ℕ
-tickCode state isSmall = if isSmall then 8192 else if isGivenUp state then 8196 else if isIdle state then 8195 else 0
-
-unfoldable pub withState : State → Progress → Progress
-withState state progress = record {
-  state = state;
-  sends = progress .sends;
-  id = progress .id;
-  sentsize = progress .sentsize;
-  gotsize = progress .gotsize;
-  agreed = progress .agreed;
-}
-
-unfoldable pub oneMore : Progress → Progress
-oneMore progress = record {
-  state = progress .state;
-  sends = progress .sends + 1;
-  id = progress .id;
-  sentsize = progress .sentsize;
-  gotsize = progress .gotsize;
-  agreed = progress .agreed;
-}
-
-unfoldable pub isOpen : State → Bool
-isOpen Open = true
-isOpen Idle = false
-isOpen Sent = false
-isOpen Half = false
-isOpen GivenUp = false
-
--- "Open nothing; Sent or Half sends its kept message again, up to four sends, and the next tick is GivenUp with nothing to send"
-unfoldable pub ticked : End → List ℕ → List ℕ → List ℕ → After
-ticked end sent got output =
-    if not (eqb (tickCode (end .progress .state) (small sent got output)) 0)
-    then refusing end sent got output (tickCode (end .progress .state) (small sent got output))
-    else if isOpen (end .progress .state) then nothing end sent got output (end .progress)
-    else if ltb (end .progress .sends) 4 then repeating end sent got output (oneMore (end .progress))
-    else nothing end sent got output (withState GivenUp (end .progress))
-
 -- ---- a delivery
 
--- "8192, 23, 8196, reading, .."
+-- "8192, 23, 8196, reading, .."; holds is what the caller says of the hash
 unfoldable pub deliveryCode : End → Bool → List ℕ → Bool → ℕ
 deliveryCode end holds m isSmall =
     if isSmall then 8192
@@ -239,6 +208,38 @@ delivered end holds m sent got output =
     then refusing end sent got output (deliveryCode end holds m (small sent got output))
     else if isInitiator (end .own .role) then atInitiator end m sent got output (end .progress .state)
     else atResponder end m sent got output (end .progress .state)
+
+-- ---- tick
+
+-- "8192, 8196, Idle 8195"
+unfoldable pub tickCode : State → Bool → ℕ
+tickCode state isSmall = if isSmall then 8192 else if isGivenUp state then 8196 else if isIdle state then 8195 else 0
+
+unfoldable pub oneMore : Progress → Progress
+oneMore progress = record {
+  state = progress .state;
+  sends = progress .sends + 1;
+  id = progress .id;
+  sentsize = progress .sentsize;
+  gotsize = progress .gotsize;
+  agreed = progress .agreed;
+}
+
+unfoldable pub isOpen : State → Bool
+isOpen Open = true
+isOpen Idle = false
+isOpen Sent = false
+isOpen Half = false
+isOpen GivenUp = false
+
+-- "Open nothing; Sent or Half sends its kept message again, up to four sends, and the next tick is GivenUp with nothing to send"
+unfoldable pub ticked : End → List ℕ → List ℕ → List ℕ → After
+ticked end sent got output =
+    if not (eqb (tickCode (end .progress .state) (small sent got output)) 0)
+    then refusing end sent got output (tickCode (end .progress .state) (small sent got output))
+    else if isOpen (end .progress .state) then nothing end sent got output (end .progress)
+    else if ltb (end .progress .sends) 4 then repeating end sent got output (oneMore (end .progress))
+    else nothing end sent got output (withState GivenUp (end .progress))
 
 -- the paper's number and values for each case
 unfoldable pub answer : StepAnswer → Answer

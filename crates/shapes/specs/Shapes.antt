@@ -13,10 +13,11 @@ use Rattle.policy.specs.Choice.{bodyAt}
 use Rattle.ends.specs.declared.Role.{Role}
 use Rattle.ends.specs.declared.Role.the-variants.{Initiator, Responder}
 
--- "shape 8-1-10, 8-1-10-5-5 or 8 alone": the count of payloads, 0 where the shape is another
+-- payload k, counted from 0, is of this type
 unfoldable pub kindIs : ℕ → List ℕ → ℕ → Bool
 kindIs k m kind = eqb (payloadAt k m .kind) kind
 
+-- "shape 8-1-10, 8-1-10-5-5 or 8 alone": the count of payloads, 0 where the shape is another
 unfoldable pub shape : ℕ → List ℕ → ℕ
 shape count m =
     if kindIs 0 m 8

@@ -21,14 +21,15 @@ bookOf own = take (own .booksize) (own .book)
 unfoldable pub nonceOf : Own → List ℕ
 nonceOf own = take (min (own .noncesize) 256) (own .nonce)
 
--- "the suiting attributes with the line's seconds, sent fixed, in the order 4, 5 where there is one, 1, 2"; all values but the seconds
--- are bytes
+-- an attribute sent fixed, with a value below 256, as all have but the seconds
 unfoldable pub fixed : ℕ → ℕ → List ℕ
 fixed type value = 0x80 ∷ type ∷ 0 ∷ value ∷ []
 
+-- "5 where there is one": not in an ESP that goes with AH
 unfoldable pub integrity : ℕ → ℕ → List ℕ
 integrity protocols protocol = if eqb protocols 2 && eqb protocol 3 then [] else fixed 5 20
 
+-- "the suiting attributes with the line's seconds, sent fixed, in the order 4, 5 where there is one, 1, 2"
 unfoldable pub attributes : ℕ → ℕ → List ℕ → List ℕ
 attributes protocol i book =
     fixed 4 (quickMode i book)
