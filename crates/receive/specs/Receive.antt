@@ -41,7 +41,8 @@ taken r number =
       window = shifted (r .window) (max number (r .highest) - r .highest) + 2 ^ (max number (r .highest) - number);
     }
 
--- "number 0, or number plus 64 not above H: 8197; accepted before: 8194; integrity no: 24; else accepted"
+-- "number 0, or number plus 64 not above H: 8197; accepted before: 8194; integrity no: 24; else accepted"; whole is what the caller says
+-- of the integrity
 unfoldable pub judged : Receive → ℕ → Bool → Judged
 judged r number whole =
     if behind (r .highest) number then record { receive = r; verdict = Refused 8197 }

@@ -23,6 +23,8 @@ use Rattle.sequence.specs.declared.table.Counted.the-variants as C
 use Rattle.receive.specs.Receive.{fresh, judged, lossLine}
 use Rattle.packets.specs.Packets.{known, read}
 
+-- Y, P, O, S and C have the cases of Verdict, Packet, Outcome, Sending and Counted
+
 -- ---- rooms
 
 abbrev pub rooms : ℕ
