@@ -62,7 +62,7 @@ pub record World : Type 0 where
   pub fromInitiator : List (List ℕ)
   pub fromResponder : List (List ℕ)
 
--- an event is a call of one of the two
+-- an event is a call of one of the two, the initiator being the first
 pub data Event : Type 0 where
   atFirst : Call → Event
   atSecond : Call → Event

@@ -1,4 +1,4 @@
--- What an answer is called by outside: one number.
+-- An answer as one number, for callers in other languages.
 use Prim.Native.Nat.{ℕ, _+_, _*_}
 use mathlib.Core.List.{List}
 use Rattle.message.specs.declared.Message.{Message}

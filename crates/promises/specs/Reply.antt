@@ -1,4 +1,4 @@
--- Issue 4, "the reply reads back": put into a message it is readable, and holds one set with the chosen number, the offered protocols in the
+-- The reply reads back: put into a message it is readable, and holds one set with the chosen number, the offered protocols in the
 -- offered order, one transform each, byte for byte the chosen one, and the own SPIs. Shut out: a reply that repeats the offer's SPI, one that
 -- takes another set or transform or leaves a proposal of the set out, and one fixed reply, since two offers ask for two.
 use Prim.Native.Nat.{ℕ, zero, suc, _+_, _-_, _≤_, _<_}
