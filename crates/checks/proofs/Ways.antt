@@ -9,7 +9,6 @@ use lib.Dec.{eqb}
 use borrow.Author.Tests.{eq-eqb, ne-eqb, lt-ltb, le-ltb}
 use Rattle.wire.specs.Wire.{numberAt}
 use Rattle.wire.proofs.Laws.{number-join, number-past}
-use Rattle.message.specs.Message.{message}
 use Rattle.message.specs.declared.Message.{Message}
 use Rattle.message.specs.declared.Message.the-variants.{Refused, Read}
 use Rattle.fields.specs.Fields.{protocol, transformNumber}

@@ -7,7 +7,6 @@ use lib.Dec.{ltb, eqb}
 use Rattle.wire.specs.Wire.{numberAt, equal}
 use Rattle.wire.specs.Tests.{if_then_else_}
 use Rattle.header.specs.Header.{flagsOf}
-use Rattle.message.specs.Message.{message}
 use Rattle.message.specs.declared.Message.{Message}
 use Rattle.message.specs.declared.Message.the-variants.{Refused, Read}
 use Rattle.fields.specs.Fields.{proposalNumber, protocol, transformCount, transformNumber}

@@ -1,19 +1,18 @@
 -- A law for each way out of this crate's functions.
 use Prim.Native.Nat.{ℕ, zero, suc, _+_, _-_, _≤_, _<_}
-use mathlib.Core.Path.{_≡_, refl, sym, ap, _∙_}
-use mathlib.Core.List.{List, [], _∷_}
-use mathlib.Core.Bool.{Bool, true, false, not, _||_, _&&_}
+use mathlib.Core.Path.{_≡_, refl, ap, _∙_}
+use mathlib.Core.List.{List}
+use mathlib.Core.Bool.{Bool, true, false, not, _||_}
 use native.Mathlib.Omega.{arith}
 use native.Mathlib.Nat.{sub-zero}
-use lib.ListN.{length, getD, take, drop}
-use lib.Dec.{ltb, leb, eqb}
+use lib.ListN.{length, getD, drop}
+use lib.Dec.{ltb, eqb}
 use borrow.Author.Tests.{eq-eqb, ne-eqb, lt-ltb, le-ltb}
 use Rattle.wire.specs.Wire.{numberAt, allZero}
 use Rattle.wire.specs.Tests.{if_then_else_}
-use Rattle.identity.specs.Identity.{identity}
 use Rattle.offer.specs.Proposals.{offerCode}
 use Rattle.header.specs.Header.{headerCode}
-use Rattle.message.specs.Payloads.{typeWrong, lengthOut, hashCode, nonceCode, certificateCode, bodyCode, bodyOf, payloadCode, restCode}
+use Rattle.message.specs.Payloads.{typeWrong, lengthOut, certificateCode, bodyCode, bodyOf, payloadCode, restCode}
 use Rattle.message.specs.Message.{Reading, refused, payloads, first, chain, reading, counted, message, walk, payloadAt}
 use Rattle.message.specs.declared.Payload.{Payload}
 use Rattle.message.specs.declared.Message.{Message}

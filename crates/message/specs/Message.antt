@@ -1,7 +1,7 @@
 -- The reading of a message, document 01: "The reading gives exchange, count, and type, start and length of each payload."
 use Prim.Native.Nat.{ℕ, zero, suc, _+_}
 use mathlib.Core.List.{List, [], _∷_}
-use mathlib.Core.Bool.{Bool, true, false, not, _||_}
+use mathlib.Core.Bool.{Bool, false, not, _||_}
 use lib.ListN.{length, getD, drop}
 use lib.Dec.{eqb}
 use Rattle.wire.specs.Wire.{numberAt}

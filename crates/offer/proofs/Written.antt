@@ -96,34 +96,34 @@ module _ (exchange next high low number protocol : ℕ) (spi t : List ℕ) (w : 
   abbrev whole : List ℕ
   whole = proposed next high low number protocol spi t ++ rest
 
-  size : numberAt 2 whole 2 ≡ length (proposed next high low number protocol spi t)
+  pub proposed-size : numberAt 2 whole 2 ≡ length (proposed next high low number protocol spi t)
   unfolding numberAt
-  size = omega (arith, w .lies)
+  proposed-size = omega (arith, w .lies)
 
   pub proposed-transforms : transformBytes whole ≡ t
   unfolding transformBytes
   proposed-transforms =
-      ap (λ (n : ℕ). drop (8 + length spi) (take n whole)) size
+      ap (λ (n : ℕ). drop (8 + length spi) (take n whole)) proposed-size
       ∙ ap (drop (8 + length spi)) (take-append-seam (proposed next high low number protocol spi t) rest)
       ∙ sym (drop-drop (length spi) 8 (proposed next high low number protocol spi t)) ∙ drop-append-seam spi t
 
   spi-right : spiWrong exchange whole ≡ false
   spi-right = key-right next high low number protocol t rest (w .key)
 
-  code : (previous : ℕ) (set : Protocols) → orderWrong previous set whole ≡ false → proposalCode exchange previous set whole ≡ 0
+  pub proposed-code : (previous : ℕ) (set : Protocols) → orderWrong previous set whole ≡ false → proposalCode exchange previous set whole ≡ 0
   unfolding countWrong
-  code previous set order =
+  proposed-code previous set order =
       let long : 8 ≤ length whole = omega arith in
-      let room : 8 + length spi ≤ numberAt 2 whole 2 = omega (arith, size, length-append spi t) in
-      let within : numberAt 2 whole 2 ≤ length whole = omega (arith, size, length-append (proposed next high low number protocol spi t) rest) in
+      let room : 8 + length spi ≤ numberAt 2 whole 2 = omega (arith, proposed-size, length-append spi t) in
+      let within : numberAt 2 whole 2 ≤ length whole = omega (arith, proposed-size, length-append (proposed next high low number protocol spi t) rest) in
       let right = proposal-right whole long (next-known exchange next (w .followed)) refl room within in
       let inner : transformsCode 1 exchange 0 (transformBytes whole) ≡ 0 = rw proposed-transforms (one-transform exchange t (w .lawful) (w .last)) in
       proposal-passes whole exchange previous set right order (w .known) spi-right refl (inner-right whole exchange inner (next-fits exchange next (w .followed)))
 
   pub proposed-lawful : (previous : ℕ) (set : Protocols) → orderWrong previous set whole ≡ false → Item exchange (proposed next high low number protocol spi t)
   proposed-lawful previous set order =
-      let item = first-lawful exchange previous set whole (code previous set order) in
-      let first : take (numberAt 2 whole 2) whole ≡ proposed next high low number protocol spi t = rw size (take-append-seam (proposed next high low number protocol spi t) rest) in
+      let item = first-lawful exchange previous set whole (proposed-code previous set order) in
+      let first : take (numberAt 2 whole 2) whole ≡ proposed next high low number protocol spi t = rw proposed-size (take-append-seam (proposed next high low number protocol spi t) rest) in
       rw first at item
 
 pub alone-transforms : (exchange next high low number protocol : ℕ) (spi t : List ℕ) → Writes exchange next high low protocol spi t → transformBytes (proposed next high low number protocol spi t) ≡ t
@@ -149,11 +149,11 @@ order-second number a b s en eb h =
     (λ e. rw (e, not-both a b 1 h, not-both a b 2 h, not-both a b 3 h)))
 
 module _ (left exchange previous : ℕ) (set : Protocols) (s : List ℕ) (fine : proposalCode exchange previous set s ≡ 0) where
-  last-proposal : getD s 0 0 ≡ 0 → length (drop (numberAt 2 s 2) s) ≡ 0 → proposalsCode (suc left) exchange previous set s ≡ 0
+  pub last-proposal : getD s 0 0 ≡ 0 → length (drop (numberAt 2 s 2) s) ≡ 0 → proposalsCode (suc left) exchange previous set s ≡ 0
   unfolding proposalsCode
   last-proposal z e = rw (fine, z, e)
 
-  more-proposals : (getD s 0 0 ≡ 0 → ⊥) → proposalsCode left exchange (getD s 4 0) (with (setBefore previous set (getD s 4 0)) (getD s 5 0)) (drop (numberAt 2 s 2) s) ≡ 0 → proposalsCode (suc left) exchange previous set s ≡ 0
+  pub more-proposals : (getD s 0 0 ≡ 0 → ⊥) → proposalsCode left exchange (getD s 4 0) (with (setBefore previous set (getD s 4 0)) (getD s 5 0)) (drop (numberAt 2 s 2) s) ≡ 0 → proposalsCode (suc left) exchange previous set s ≡ 0
   unfolding proposalsCode
   more-proposals z e = rw (fine, ne-eqb (getD s 0 0) 0 z) e
 
@@ -171,7 +171,7 @@ module _ (exchange high low number protocol : ℕ) (spi t : List ℕ) (w : Write
       let same : last-one ++ [] ≡ last-one = append-nil last-one in
       let ordered : orderWrong previous set (last-one ++ []) ≡ false = rw same order in
       let fine : proposalCode exchange previous set last-one ≡ 0 =
-      subst (λ (l : List ℕ). proposalCode exchange previous set l ≡ 0) same (code exchange 0 high low number protocol spi t w [] previous set ordered) in
+      subst (λ (l : List ℕ). proposalCode exchange previous set l ≡ 0) same (proposed-code exchange 0 high low number protocol spi t w [] previous set ordered) in
       last-proposal left exchange previous set last-one fine refl (rw last-size (ap length (drop-length last-one)))
 
   pub one-reads : proposalsCode 16 exchange 0 none last-one ≡ 0
@@ -187,9 +187,9 @@ module _ (exchange high low number protocol : ℕ) (spi t : List ℕ) (w : Write
 
   pub two-read : proposalsCode 16 exchange 0 none (first-one ++ second-one) ≡ 0
   two-read =
-      let fine = code exchange 2 high low number protocol spi t w second-one 0 none (order-first (first-one ++ second-one)) in
+      let fine = proposed-code exchange 2 high low number protocol spi t w second-one 0 none (order-first (first-one ++ second-one)) in
       let rest : drop (numberAt 2 (first-one ++ second-one) 2) (first-one ++ second-one) ≡ second-one =
-      rw (size exchange 2 high low number protocol spi t w second-one) (drop-append-seam first-one second-one) in
+      rw (proposed-size exchange 2 high low number protocol spi t w second-one) (drop-append-seam first-one second-one) in
       let after : proposalsCode 15 exchange number (with (setBefore 0 none number) protocol) second-one ≡ 0 =
       last-reads exchange high2 low2 number protocol2 spi2 t2 w2 14 number (with (setBefore 0 none number) protocol) (order-second number protocol protocol2 second-one refl refl other) in
       more-proposals 15 exchange 0 none (first-one ++ second-one) fine (λ z. omega arith) (rw rest after)

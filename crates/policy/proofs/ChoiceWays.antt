@@ -1,7 +1,7 @@
 -- A law for each way out of the functions of the choice.
 use Prim.Native.Nat.{ℕ, zero, suc, _+_, _-_}
 use mathlib.Core.Path.{_≡_, refl, sym, _∙_}
-use mathlib.Core.List.{List, []}
+use mathlib.Core.List.{List}
 use mathlib.Core.Bool.{Bool, true, false, _&&_}
 use native.Mathlib.Omega.{arith}
 use lib.ListN.{length, getD, take}
@@ -20,10 +20,9 @@ use Rattle.suits.specs.Suits.{lowest, setSuits}
 use Rattle.policy.specs.Choice.{lineCount, lineFrom, firstLine, numberOf, transformsOf, chosen, setFrom, chooseFrom, bodyAt, saFrom, messageRefusal, messageChoice, bookChoice, choice}
 use Rattle.book.specs.declared.Book.{Book}
 use Rattle.book.specs.declared.Book.the-variants as books
-use Rattle.policy.specs.declared.Transforms.{Transforms}
 use Rattle.policy.specs.declared.Transforms.the-variants.{One, Two}
 use Rattle.policy.specs.declared.Choice.{Choice}
-use Rattle.policy.specs.declared.Choice.the-variants.{Refused, Chosen}
+use Rattle.policy.specs.declared.Choice.the-variants.{Refused}
 
 -- ---- lines
 

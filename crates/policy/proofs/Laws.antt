@@ -3,19 +3,19 @@ use Prim.Native.Nat.{ℕ, zero, suc, _+_, _≤_, _<_}
 use mathlib.Core.Path.{_≡_, refl, sym, ap, _∙_}
 use mathlib.Core.Logic.{_⊎_, inl, inr, ⊎-elim}
 use mathlib.Core.List.{List}
-use mathlib.Core.Bool.{Bool, true, false, not, _||_, _&&_, or-true}
+use mathlib.Core.Bool.{Bool, true, false, _||_, _&&_, or-true}
 use native.Mathlib.Omega.{arith}
 use lib.Dec.{eqb, leb}
-use borrow.Author.Tests.{eqb-true, eqb-false, eq-eqb, ne-eqb, leb-true, leb-false, le-leb}
+use borrow.Author.Tests.{eqb-true, eq-eqb, ne-eqb, leb-true, leb-false, le-leb}
 use Rattle.wire.specs.Tests.{if_then_else_}
-use Rattle.wire.proofs.Tests.{never, clash, both, by-test}
+use Rattle.wire.proofs.Tests.{clash, both, by-test}
 use Rattle.fields.specs.Fields.{transformCount}
 use Rattle.sets.specs.Parts.{set, setCount, proposal, proposalCount}
 use Rattle.book.specs.Book.{quickProtocols}
 use Rattle.suits.specs.Suits.{transformSuits, lowestFrom, lowest, protocolsAlone, protocolsBoth, protocolsSuit, setSuits}
 use Rattle.policy.specs.Choice.{lineCount, lineFrom, firstLine, chosen, setFrom, chooseFrom}
 use Rattle.policy.specs.declared.Choice.{Choice}
-use Rattle.policy.specs.declared.Choice.the-variants.{Refused, Chosen}
+use Rattle.policy.specs.declared.Choice.the-variants.{Refused}
 
 -- the first of the n from k on that passes the test, counted from 1; 0 where none does
 pub firstFrom : (ℕ → Bool) → ℕ → ℕ → ℕ

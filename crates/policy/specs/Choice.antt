@@ -2,8 +2,7 @@
 -- payload (16), then 14."
 use Prim.Native.Nat.{ℕ, zero, suc, _+_, _-_}
 use mathlib.Core.List.{List, [], _∷_}
-use mathlib.Core.Bool.{Bool, true, false, not}
-use lib.ListN.{length, getD, take, drop}
+use lib.ListN.{length, take, drop}
 use lib.Dec.{eqb}
 use Rattle.wire.specs.Tests.{if_then_else_}
 use Rattle.wire.specs.Answer.{Answer, done, refused}
@@ -17,7 +16,6 @@ use Rattle.book.specs.Book.{mainCount, quickCount, bookRead}
 use Rattle.book.specs.declared.Book.{Book}
 use Rattle.book.specs.declared.Book.the-variants as books
 use Rattle.suits.specs.Suits.{lowest, setSuits}
-use Rattle.policy.specs.declared.LineNumber.{LineNumber}
 use Rattle.policy.specs.declared.Transforms.{Transforms}
 use Rattle.policy.specs.declared.Transforms.the-variants.{One, Two}
 use Rattle.policy.specs.declared.Choice.{Choice}

@@ -3,22 +3,21 @@ use Prim.Native.Nat.{ℕ, zero, suc, _+_, _-_, _*_, _/_, _%_, _≤_, _<_}
 use mathlib.Core.Path.{_≡_, refl, sym, ap, _∙_}
 use mathlib.Core.Logic.{_⊎_, inl, inr, ⊎-elim}
 use mathlib.Core.List.{List, [], _∷_, _++_, append-assoc, append-nil, flatten}
-use mathlib.Core.Bool.{true, false, not, _||_, _&&_}
+use mathlib.Core.Bool.{false, _&&_}
 use native.Mathlib.Omega.{arith}
 use lib.ListN.{length, getD, drop, length-append, List·getD-append}
 use lib.Seq.{take-length, drop-length, take-append-seam, drop-append-seam, getD-append-add}
 use lib.Dec.{ltb, leb, eqb}
-use borrow.Author.Tests.{ltb-false, eq-eqb, ne-eqb, le-ltb, le-leb, lt-leb}
+use borrow.Author.Tests.{ltb-false, eq-eqb, ne-eqb, le-ltb, lt-leb}
 use Rattle.wire.specs.Wire.{numberAt, bytesOf, head, headed}
 use Rattle.wire.specs.Tests.{if_then_else_}
 use Rattle.wire.proofs.Tests.{by-test}
 use Rattle.wire.proofs.Laws.{number-append, number-append-add, number-bytesOf, length-bytesOf, length-headed, headed-lies}
 use Rattle.attribute.specs.Attributes.{sentFixed, attributeType, attributeSize, outOfBounds, find, attribute, mustBeFixed, fixedWrong, isDuration, durationWrong, attributeCode, attributesCode, attributesLawful}
-use Rattle.offer.specs.Transforms.{transformsCode}
-use Rattle.offer.specs.Proposals.{proposalWrong, has, with, setBefore, orderWrong, protocolWrong, spiWrong, countWrong, transformBytes, innerCode, proposalCode, proposalsCode}
+use Rattle.offer.specs.Proposals.{has, with, setBefore, orderWrong, protocolWrong, proposalCode, proposalsCode}
 use Rattle.offer.specs.Proposals as proposals
 use Rattle.offer.proofs.Laws.{Item, Rising, end, on, LawfulTransform}
-use Rattle.offer.proofs.Written.{proposed, Keyed, keyed, Writes, proposed-transforms, alone-transforms, proposed-lawful, order-first}
+use Rattle.offer.proofs.Written.{proposed, Keyed, keyed, Writes, alone-transforms, proposed-size, proposed-code, proposed-lawful, order-first, last-proposal, more-proposals}
 use Rattle.fields.specs.Fields.{transformCount}
 use Rattle.sets.specs.Parts.{skip, parts, firstItem, setEnd, firstSet, afterSet, set, setCount, proposal, proposalCount, transform}
 use Rattle.sets.proofs.Laws.{Same, same-end, same-on}
@@ -131,65 +130,15 @@ module _ {next number protocol : ℕ} where
   unfolding transformCount transform skip firstItem
   single-alone (single {high} {low} {spi} {t} w few) = (refl, rw (alone-transforms 32 next high low number protocol spi t w, w .lawful .lies, take-length t) (w .last))
 
--- ---- its checks, whatever follows it
-
-module _ (next high low number protocol : ℕ) (spi t : List ℕ) (w : Writes 32 next high low protocol spi t) (rest : List ℕ) where
-  abbrev whole : List ℕ
-  whole = proposed next high low number protocol spi t ++ rest
-
-  whole-size : numberAt 2 whole 2 ≡ length (proposed next high low number protocol spi t)
-  unfolding numberAt
-  whole-size = omega (arith, w .lies)
-
-  bounds-right : proposalWrong whole ≡ false
-  unfolding proposalWrong
-  bounds-right =
-      let long : ltb (length whole) 8 ≡ false = le-ltb (length whole) 8 (omega arith) in
-      let follows : (eqb next 0 || eqb next 2) ≡ true = ⊎-elim (λ e. rw e) (λ e. rw (e .0)) (w .followed) in
-      let room : ltb (numberAt 2 whole 2) (8 + length spi) ≡ false = le-ltb (numberAt 2 whole 2) (8 + length spi) (omega (arith, whole-size, length-append spi t)) in
-      let within : ltb (length whole) (numberAt 2 whole 2) ≡ false =
-      le-ltb (length whole) (numberAt 2 whole 2) (omega (arith, whole-size, length-append (proposed next high low number protocol spi t) rest)) in
-      rw (long, follows, room, within)
-
-  key-value : length spi ≡ 4 → numberAt 4 whole 8 ≡ numberAt 4 spi 0
-  key-value four =
-      number-append-add 4 (next ∷ 0 ∷ high ∷ low ∷ number ∷ protocol ∷ length spi ∷ 1 ∷ []) ((spi ++ t) ++ rest) 0
-      ∙ number-append 4 (spi ++ t) rest 0 (omega (arith, length-append spi t)) ∙ number-append 4 spi t 0 (omega arith)
-
-  spi-right : spiWrong 32 whole ≡ false
-  unfolding spiWrong
-  spi-right = go (w .key)
-    where
-      go : Keyed 32 spi → not (eqb (length spi) 4 && leb 256 (numberAt 4 whole 8)) ≡ false
-      go (keyed four big) = rw (eq-eqb (length spi) 4 four, le-leb 256 (numberAt 4 whole 8) (omega (arith, key-value four)))
-
-  transforms-right : innerCode 32 whole ≡ 0
-  unfolding innerCode
-  transforms-right =
-      let alone : transformsCode 1 32 0 (transformBytes (proposed next high low number protocol spi t)) ≡ 0 = proposed-item next high low number protocol spi t w .transforms in
-      let inner : transformsCode 1 32 0 (transformBytes whole) ≡ 0 =
-      rw (proposed-transforms 32 next high low number protocol spi t w rest, ← alone-transforms 32 next high low number protocol spi t w) alone in
-      rw inner
-
-  order-right : (previous : ℕ) (set : _) → previous ≤ number → has (setBefore previous set number) protocol ≡ false → orderWrong previous set whole ≡ false
-  unfolding orderWrong
-  order-right previous set low-enough new = rw (le-ltb number previous low-enough) new
-
-  code : (previous : ℕ) (set : _) → previous ≤ number → has (setBefore previous set number) protocol ≡ false → proposalCode 32 previous set whole ≡ 0
-  unfolding proposalCode countWrong
-  code previous set low-enough new = rw (bounds-right, order-right previous set low-enough new, w .known, spi-right) transforms-right
-
 -- ---- proposals one after the other
 
-module _ (left previous : ℕ) (set : _) (s : List ℕ) (fine : proposalCode 32 previous set s ≡ 0) where
-  last-proposal : getD s 0 0 ≡ 0 → length (drop (numberAt 2 s 2) s) ≡ 0 → proposalsCode (suc left) 32 previous set s ≡ 0
-  unfolding proposalsCode
-  last-proposal z e = rw (fine, z, e)
-
-  more-proposals : getD s 0 0 ≡ 2 → proposalsCode left 32 (getD s 4 0) (with (setBefore previous set (getD s 4 0)) (getD s 5 0)) (drop (numberAt 2 s 2) s) ≡ 0 →
-      proposalsCode (suc left) 32 previous set s ≡ 0
-  unfolding proposalsCode
-  more-proposals z e = rw (fine, z) e
+-- a proposal's checks, whatever follows it
+module _ (next high low number protocol : ℕ) (spi t : List ℕ) (w : Writes 32 next high low protocol spi t) (rest : List ℕ) where
+  code : (previous : ℕ) (set : _) → previous ≤ number → has (setBefore previous set number) protocol ≡ false → proposalCode 32 previous set (proposed next high low number protocol spi t ++ rest) ≡ 0
+  unfolding orderWrong
+  code previous set low-enough new =
+      let ordered : orderWrong previous set (proposed next high low number protocol spi t ++ rest) ≡ false = rw (le-ltb number previous low-enough) new in
+      proposed-code 32 next high low number protocol spi t w rest previous set ordered
 
 module _ {number protocol : ℕ} (left previous : ℕ) (set : _) (low-enough : previous ≤ number) (new : has (setBefore previous set number) protocol ≡ false) where
   last-reads : {p : List ℕ} → Single 0 number protocol p → proposalsCode (suc left) 32 previous set p ≡ 0
@@ -197,14 +146,14 @@ module _ {number protocol : ℕ} (left previous : ℕ) (set : _) (low-enough : p
       let p : List ℕ = proposed 0 high low number protocol spi t in
       let fine : proposalCode 32 previous set (p ++ []) ≡ 0 = code 0 high low number protocol spi t w [] previous set low-enough new in
       let none : length (drop (numberAt 2 p 2) p) ≡ 0 = rw (proposed-item 0 high low number protocol spi t w .lies) (ap length (drop-length p)) in
-      last-proposal left previous set p (rw (append-nil p) at fine) refl none
+      last-proposal left 32 previous set p (rw (append-nil p) at fine) refl none
 
   more-read : {p : List ℕ} → Single 2 number protocol p → (rest : List ℕ) → proposalsCode left 32 number (with (setBefore previous set number) protocol) rest ≡ 0 →
       proposalsCode (suc left) 32 previous set (p ++ rest) ≡ 0
   more-read (single {high} {low} {spi} {t} w few) rest reads =
       let p : List ℕ = proposed 2 high low number protocol spi t in
-      let behind-it : drop (numberAt 2 (p ++ rest) 2) (p ++ rest) ≡ rest = rw (whole-size 2 high low number protocol spi t w rest) (drop-append-seam p rest) in
-      more-proposals left previous set (p ++ rest) (code 2 high low number protocol spi t w rest previous set low-enough new) refl (rw behind-it reads)
+      let behind-it : drop (numberAt 2 (p ++ rest) 2) (p ++ rest) ≡ rest = rw (proposed-size 32 2 high low number protocol spi t w rest) (drop-append-seam p rest) in
+      more-proposals left 32 previous set (p ++ rest) (code 2 high low number protocol spi t w rest previous set low-enough new) (λ z. omega arith) (rw behind-it reads)
 
 -- ---- where a set ends
 

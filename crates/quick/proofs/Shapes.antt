@@ -14,7 +14,7 @@ use Rattle.message.specs.Message.{message}
 use Rattle.message.specs.declared.Message.the-variants.{Read}
 use Rattle.book.specs.Book.{bookInFront, bookSize}
 use Rattle.policy.specs.Choice.{bodyAt, chooseFrom}
-use Rattle.writing.specs.Messages.{bookOf, nonceOf, lines, longer, messageOne, messageTwo}
+use Rattle.writing.specs.Messages.{bookOf, nonceOf, lines, messageOne, messageTwo}
 use Rattle.shapes.specs.Shapes.{shapeOf, nonceIn, alike}
 use Rattle.quick.specs.Ends.{identityAt}
 use Rattle.ends.specs.declared.Own.{Own}

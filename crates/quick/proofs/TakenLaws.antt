@@ -6,11 +6,11 @@ use mathlib.Core.Logic.{_⊎_, inl, inr, ⊎-elim}
 use mathlib.Core.List.{List, _∷_}
 use mathlib.Core.Bool.{true, false, not, or-true}
 use native.Mathlib.Omega.{arith}
-use lib.ListN.{length, getD, take, drop, length-take}
+use lib.ListN.{length, getD, drop, length-take}
 use lib.Seq.{drop-cons}
 use lib.Dec.{ltb, eqb}
 use borrow.Author.Tests.{eq-eqb, le-ltb}
-use Rattle.wire.specs.Wire.{numberAt, bytesOf, head, headed, equal}
+use Rattle.wire.specs.Wire.{numberAt, bytesOf, head, headed}
 use Rattle.wire.proofs.Tests.{never, by-test, passed}
 use Rattle.wire.proofs.Laws.{number-drop, number-take, number-bytesOf, length-bytesOf, equal-same}
 use Rattle.offer.specs.Proposals.{proposalsCode, offerCode}
@@ -40,7 +40,6 @@ use Rattle.shapes.proofs.Laws.{alike-same}
 use Rattle.quick.proofs.Shapes.{payloadsWith, saBody, Longer, Answered, replyTo, Fit, Identities}
 use Rattle.quick.proofs.MessageLaws.{longer-reads}
 use Rattle.quick.proofs.OfferLaws.{offer-reads, offer-short, offer-count, offer-transform}
-use Rattle.message.specs.Message.{message}
 
 -- ---- the body of an SA payload
 

@@ -19,7 +19,6 @@ use Rattle.writing.specs.Messages.{bookOf, lines, messageOne, messageTwo, messa
 use Rattle.ends.specs.Fresh.{isIdle, isInitiator, isGivenUp}
 use Rattle.shapes.specs.Shapes.{isLonger, alike, shapeOf}
 use Rattle.checks.specs.Checks.{readCode, takenCode, spisOf, ownSpis, agreedTwo}
-use Rattle.ends.specs.declared.Role.the-variants.{Initiator, Responder}
 use Rattle.ends.specs.declared.State.{State}
 use Rattle.ends.specs.declared.State.the-variants.{Idle, Sent, Half, Open, GivenUp}
 use Rattle.ends.specs.declared.Progress.{Progress}

@@ -2,7 +2,7 @@
 -- own SPIs. Alone it is an SA payload, next 0, at a lent buffer's start: 8192, the checks above, then a used own SPI below 256: 11."
 use Prim.Native.Nat.{ℕ, _+_}
 use mathlib.Core.List.{List, [], _∷_, _++_}
-use mathlib.Core.Bool.{Bool, true, false, _||_, _&&_}
+use mathlib.Core.Bool.{Bool, _||_, _&&_}
 use lib.ListN.{length, drop}
 use lib.Dec.{ltb, eqb}
 use Rattle.wire.specs.Wire.{bytesOf, head, headed, paste}

@@ -1,7 +1,7 @@
 -- What later layers take out of an SA payload's body that reads. Of any other body these give something too, which no rule asks for.
 use Prim.Native.Nat.{ℕ, zero, suc, _+_}
 use mathlib.Core.List.{List, []}
-use mathlib.Core.Bool.{Bool, true, false, not, _||_}
+use mathlib.Core.Bool.{not, _||_}
 use lib.ListN.{length, getD, take, drop}
 use lib.Dec.{ltb, eqb}
 use Rattle.wire.specs.Wire.{numberAt}

@@ -1,9 +1,9 @@
 -- Which transform, and which set, suits which line, document 01, "Policy book and choice".
 use Prim.Native.Nat.{ℕ, zero, suc, _+_}
 use mathlib.Core.List.{List}
-use mathlib.Core.Bool.{Bool, true, false, not, _||_, _&&_}
-use lib.ListN.{length, getD, take, drop}
-use lib.Dec.{ltb, leb, eqb}
+use mathlib.Core.Bool.{Bool, _||_, _&&_}
+use lib.ListN.{length}
+use lib.Dec.{leb, eqb}
 use Rattle.wire.specs.Tests.{if_then_else_}
 use Rattle.book.specs.Book.{mainSeconds, quickProtocols, quickMode, quickSeconds}
 use Rattle.attribute.specs.Attributes.{attribute, attributeCount, value}

@@ -1,7 +1,7 @@
 -- The three messages that the ends write, document 01, "Quick mode ends".
 use Prim.Native.Nat.{ℕ, zero, suc, min, _+_, _-_, _%_}
 use mathlib.Core.List.{List, [], _∷_, _++_}
-use mathlib.Core.Bool.{Bool, true, false, _||_, _&&_}
+use mathlib.Core.Bool.{Bool, _||_, _&&_}
 use lib.ListN.{length, take, replicate}
 use lib.Dec.{ltb, leb, eqb}
 use Rattle.wire.specs.Wire.{bytesOf, headed, paste, put}

@@ -1,4 +1,3 @@
-use borrow.Author.Needs.{needs}
 use Rattle.checks.specs.Checks.{spiFor}
 use borrow.Author.Tests.{eq-eqb, ne-eqb}
 use Rattle.checks.proofs.spi_for.Statement.{statement}

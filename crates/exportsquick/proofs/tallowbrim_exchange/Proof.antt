@@ -3,7 +3,6 @@ use Prim.Native.Nat.{ℕ, _+_, _*_}
 use mathlib.Core.Path.{_≡_, _∙_}
 use mathlib.Core.List.{List}
 use borrow.Author.Needs.{needs}
-use Rattle.ends.specs.declared.End.{End}
 use Rattle.ends.specs.declared.Made.{Made}
 use Rattle.quick.specs.declared.Stepped.{Stepped}
 use Rattle.quick.specs.Ends.{begun}

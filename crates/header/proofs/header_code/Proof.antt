@@ -1,4 +1,3 @@
-use mathlib.Core.Path.{refl}
 use Rattle.wire.proofs.Tests.{told-then, told-else}
 use Rattle.header.specs.Header.{headerCode}
 use borrow.Author.Needs.{needs}

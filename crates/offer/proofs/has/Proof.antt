@@ -1,4 +1,3 @@
-use borrow.Author.Needs.{needs}
 use Rattle.offer.specs.Proposals.{has}
 use Rattle.offer.proofs.has.Statement.{statement}
 use Rattle.offer.proofs.has.Tie as tie

@@ -1,4 +1,3 @@
-use borrow.Author.Needs.{needs}
 use mathlib.Core.Path.{refl}
 use Rattle.offer.specs.Proposals.{none}
 use Rattle.offer.proofs.none.Statement.{statement}

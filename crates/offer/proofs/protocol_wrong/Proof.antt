@@ -1,4 +1,3 @@
-use borrow.Author.Needs.{needs}
 use Rattle.offer.specs.Proposals.{protocolWrong}
 use Rattle.offer.proofs.protocol_wrong.Statement.{statement}
 use Rattle.offer.proofs.protocol_wrong.Tie as tie

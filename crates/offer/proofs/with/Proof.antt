@@ -1,4 +1,3 @@
-use borrow.Author.Needs.{needs}
 use Rattle.offer.specs.Proposals.{with}
 use Rattle.offer.proofs.with.Statement.{statement}
 use Rattle.offer.proofs.with.Tie as tie

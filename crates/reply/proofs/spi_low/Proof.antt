@@ -1,4 +1,3 @@
-use borrow.Author.Needs.{needs}
 use Rattle.reply.specs.Reply.{spiLow}
 use Rattle.reply.proofs.spi_low.Statement.{statement}
 use Rattle.reply.proofs.spi_low.Tie as tie

@@ -1,4 +1,3 @@
-use borrow.Author.Needs.{needs}
 use Rattle.shapes.specs.Shapes.{isLonger}
 use Rattle.shapes.proofs.is_longer.Statement.{statement}
 use Rattle.shapes.proofs.is_longer.Tie as tie

@@ -1,4 +1,3 @@
-use borrow.Author.Needs.{needs}
 use borrow.Author.Tests.{eq-eqb, ne-eqb}
 use Rattle.suits.specs.Suits.{quickId}
 use Rattle.suits.proofs.quick_id.Statement.{statement}

@@ -1,4 +1,3 @@
-use borrow.Author.Needs.{needs}
 use Rattle.writing.proofs.Ways.{next-last, next-more}
 use Rattle.writing.proofs.next_set.Statement.{statement}
 use Rattle.writing.proofs.next_set.Tie as tie

@@ -1,4 +1,3 @@
-use borrow.Author.Needs.{needs}
 use borrow.Author.Tests.{eq-eqb, ne-eqb}
 use Rattle.message.specs.Payloads.{hashCode}
 use Rattle.message.proofs.payloads.hash_code.Statement.{statement}

@@ -1,4 +1,3 @@
-use borrow.Author.Needs.{needs}
 use Rattle.message.specs.Payloads.{nonceCode}
 use Rattle.message.proofs.payloads.nonce_code.Statement.{statement}
 use Rattle.message.proofs.payloads.nonce_code.Tie as tie

@@ -1,4 +1,3 @@
-use borrow.Author.Needs.{needs}
 use Rattle.message.specs.Payloads.{typeWrong}
 use Rattle.message.proofs.payloads.type_wrong.Statement.{statement}
 use Rattle.message.proofs.payloads.type_wrong.Tie as tie

@@ -1,4 +1,3 @@
-use borrow.Author.Needs.{needs}
 use borrow.Author.Tests.{ne-eqb}
 use Rattle.offer.specs.Transforms.{nextWanted}
 use Rattle.offer.proofs.transforms.next_wanted.Statement.{statement}
