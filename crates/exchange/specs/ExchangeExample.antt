@@ -1,5 +1,5 @@
 -- One exchange, computed: message one is lost and sent again by a tick, it arrives twice, the carrier fills in the hash bytes, and both
--- ends are open. So what ExchangePromises.antt says is not said of nothing.
+-- ends are open. So what promises say of an exchange is not said of nothing.
 use Prim.Native.Nat.{ℕ}
 use mathlib.Core.Path.{_≡_, refl}
 use mathlib.Core.List.{List, [], _∷_}

@@ -3,7 +3,7 @@ use Prim.Native.Nat.{ℕ, _<_, _≤_}
 use mathlib.Core.Path.{_≡_, refl, sym, ap, subst, _∙_}
 use mathlib.Core.Logic.{_⊎_, inl, inr, ⊎-elim}
 use mathlib.Core.List.{List, [], _∷_}
-use mathlib.Core.Bool.{Bool, true, false, _&&_}
+use mathlib.Core.Bool.{true, false, _&&_, and-false}
 use native.Mathlib.Omega.{arith}
 use lib.ListN.{length}
 use lib.Dec.{eqb}
@@ -11,11 +11,7 @@ use borrow.Author.Tests.{eq-eqb}
 use Rattle.wire.specs.Wire.{numberAt, paste}
 use Rattle.wire.proofs.Tests.{never, clash, both, by-test}
 use Rattle.sets.specs.Parts.{setNumbered}
-use Rattle.fields.specs.declared.ProposalNumber.{ProposalNumber}
 use Rattle.policy.specs.Choice.{bodyAt, chooseFrom}
-use Rattle.reply.specs.Reply.{setReply}
-use Rattle.policy.specs.declared.LineNumber.{LineNumber}
-use Rattle.policy.specs.declared.Transforms.{Transforms}
 use Rattle.policy.specs.declared.Choice.the-variants.{Chosen}
 use Rattle.message.specs.Message.{message}
 use Rattle.writing.specs.Messages.{bookOf, lines, offerOf, messageOne, messageTwo, messageThree}
@@ -23,47 +19,34 @@ use Rattle.ends.specs.Fresh.{isIdle, isInitiator}
 use Rattle.shapes.specs.Shapes.{isLonger, alike, shapeOf}
 use Rattle.checks.specs.Checks.{readCode, takenCode}
 use Rattle.ends.specs.Fresh.{isGivenUp}
-use Rattle.quick.specs.Ends.{After, small, nothing, repeating, withState, oneMore, opened, atInitiator, halfway, answered, atResponder}
+use Rattle.quick.specs.Ends.{After, nothing, repeating, withState, oneMore, opened, atInitiator, halfway, answered, atResponder}
 use Rattle.shapes.proofs.Laws.{alike-same, alike-sym, alike-trans, alike-says}
-use Rattle.ends.specs.declared.Role.{Role}
 use Rattle.ends.specs.declared.State.{State}
 use Rattle.ends.specs.declared.State.the-variants.{Idle, Sent, Half, Open, GivenUp}
 use Rattle.ends.specs.declared.Own.{Own}
 use Rattle.ends.specs.declared.Progress.{Progress}
 use Rattle.quick.specs.declared.StepAnswer.{StepAnswer}
 use Rattle.quick.specs.declared.StepAnswer.the-variants.{Send, Nothing, Refused}
-use Rattle.quick.proofs.Shapes.{payloadsWith, Longer, Third, replyTo}
-use Rattle.quick.proofs.MessageLaws.{third-reads, longer-passes, third-passes}
-use Rattle.quick.proofs.TakenLaws.{one-reads, two-reads, two-taken}
+use Rattle.quick.proofs.Shapes.{payloadsWith}
+use Rattle.quick.proofs.MessageLaws.{longer-passes, third-passes}
 use Rattle.exchange.specs.Exchange.{Party, deliver, called, left, said, logged, World, atFirst, atSecond, step, Heard, here, there, Fair, Run, rest, goes, Fresh, stateOf, sentOf, gotOf, FullSize, Only, one, more, Then, turn, next, Beginning, beginCall, afterBegin, Suits, oneOf, twoOf, threeOf, Arrives, delivery}
-use Rattle.exchange.specs.ExchangeMoves.{asking, answering, past, second-is, Ask, offered, keeps-it, MoveR, moves-first, moves-second, own-first, own-second, open-rests, Begins, ask-of, begins-with, begin-open, up-is, taken-first, taken-second}
-use Rattle.exchange.specs.ExchangeSafety.{only-heard, then-heard, none-heard, Keeps, Pair, Replied, Stage, new, asked, half, done, again, sends-it, one-short, answered-by, its-answer, three-short, always, silent}
+use Rattle.exchange.specs.ExchangeMoves.{asking, answering, past, answering-past, second-is, Ask, offered, answers-with, keeps-it, MoveR, moves-first, moves-second, own-first, own-second, open-rests, Begins, ask-of, begins-with, begin-open, taken-first, taken-second}
+use Rattle.exchange.specs.ExchangeSafety.{only-heard, then-heard, none-heard, Keeps, Pair, replyOf, Replied, Stage, new, asked, half, done, Inv, again, sends-it, one-read, one-short, three-read, three-short, two-read, two-takes, two-short, past-cases, always, silent}
 
 -- ---- states
 
-asking-sent : (s : State) → asking s ≡ true → isGivenUp s ≡ false → s ≡ Sent
-unfolding isGivenUp
-asking-sent Idle e u = clash e
-asking-sent Sent e u = refl
-asking-sent Half e u = clash e
-asking-sent Open e u = clash e
-asking-sent GivenUp e u = clash (sym u)
+asking-sent : (s : State) → asking s ≡ true → (s ≡ GivenUp → ⊥) → s ≡ Sent
+asking-sent Idle e up = clash e
+asking-sent Sent e up = refl
+asking-sent Half e up = clash e
+asking-sent Open e up = clash e
+asking-sent GivenUp e up = absurd (up refl)
 
-answering-half : (s : State) → answering s ≡ true → isGivenUp s ≡ false → s ≡ Half
-unfolding isGivenUp
-answering-half Idle e u = clash e
-answering-half Sent e u = clash e
-answering-half Half e u = refl
-answering-half Open e u = clash e
-answering-half GivenUp e u = clash (sym u)
+past-up : (s : State) → past s ≡ true → (s ≡ GivenUp → ⊥) → (s ≡ Half) ⊎ (s ≡ Open)
+past-up s e up = ⊎-elim inr (⊎-elim inl (λ q. absurd (up q))) (past-cases s e)
 
-past-up : (s : State) → past s ≡ true → isGivenUp s ≡ false → (s ≡ Half) ⊎ (s ≡ Open)
-unfolding isGivenUp
-past-up Idle e u = clash e
-past-up Sent e u = clash e
-past-up Half e u = inl refl
-past-up Open e u = inr refl
-past-up GivenUp e u = clash (sym u)
+answering-half : (s : State) → answering s ≡ true → (s ≡ GivenUp → ⊥) → s ≡ Half
+answering-half s e up = ⊎-elim (λ q. q) (λ q. clash (cc)) (past-up s (answering-past s e) up)
 
 -- ---- the first message that was written
 
@@ -122,77 +105,34 @@ open-run (goes {u = z} l (atSecond c) fair) =
     let h = open-run l in
     (h .0, λ q. open-rests (z .responder) (ap stateOf (h .1 q) ∙ q) c ∙ h .1 q)
 
-module _ (s : State) where
-  not-idle-half : s ≡ Half → isIdle s ≡ false
-  unfolding isIdle
-  not-idle-half e = rw e
-
-  not-idle-sent : s ≡ Sent → isIdle s ≡ false
-  unfolding isIdle
-  not-idle-sent e = rw e
-
-  not-idle-open : s ≡ Open → isIdle s ≡ false
-  unfolding isIdle
-  not-idle-open e = rw e
-
-  idle-idle : s ≡ Idle → isIdle s ≡ true
-  unfolding isIdle
-  idle-idle e = rw e
-
 longer-is : (first : List ℕ) → isLonger (payloadsWith first) ≡ true
 unfolding isLonger payloadsWith
 longer-is first = by-test (eqb (length first) 0) (λ e. rw e) (λ e. rw e)
 
-awake-second : (r : Role) (s : State) → isInitiator r ≡ false → (isInitiator r && isIdle s) ≡ false
-awake-second r s e = rw e
-
-awake-first : (b : Bool) (s : State) → isIdle s ≡ false → (b && isIdle s) ≡ false
-awake-first true s e = e
-awake-first false s e = refl
-
 -- ---- what an end does at a message that passes, as an equation
 
 module _ (p : Party) (m output : List ℕ) where
-  at-idle : (number : ProposalNumber) (line : LineNumber) (transforms : Transforms) → isLonger (shapeOf m) ≡ true → chooseFrom 32 (bookOf (p .end .own)) (bodyAt 1 m) ≡ Chosen number line transforms →
-      (s : State) → s ≡ Idle → atResponder (p .end) m (p .sent) (p .got) output s ≡ halfway (p .end) m (p .sent) (p .got) output number transforms (setNumbered number (bodyAt 1 m))
+  at-idle : stateOf p ≡ Idle → isLonger (shapeOf m) ≡ true → (s : Suits (p .end .own) m) → atResponder (p .end) m (p .sent) (p .got) output (stateOf p) ≡ answers-with p m output s
   unfolding atResponder answered
-  at-idle number line transforms long chosen Idle q = rw (long, chosen)
-  at-idle number line transforms long chosen Sent q = never (cc)
-  at-idle number line transforms long chosen Half q = never (cc)
-  at-idle number line transforms long chosen Open q = never (cc)
-  at-idle number line transforms long chosen GivenUp q = never (cc)
+  at-idle q long s = rw (q, long, s .chosen)
 
-  at-half-again : alike m (gotOf p) ≡ true → (s : State) → s ≡ Half → atResponder (p .end) m (p .sent) (p .got) output s ≡ repeating (p .end) (p .sent) (p .got) output (p .end .progress)
+  at-half-again : stateOf p ≡ Half → alike m (gotOf p) ≡ true → atResponder (p .end) m (p .sent) (p .got) output (stateOf p) ≡ repeating (p .end) (p .sent) (p .got) output (p .end .progress)
   unfolding atResponder
-  at-half-again same Half q = rw same
-  at-half-again same Idle q = never (cc)
-  at-half-again same Sent q = never (cc)
-  at-half-again same Open q = never (cc)
-  at-half-again same GivenUp q = never (cc)
+  at-half-again q same = rw (q, same)
 
-  at-half-opens : alike m (gotOf p) ≡ false → shapeOf m ≡ 1 → (s : State) → s ≡ Half → atResponder (p .end) m (p .sent) (p .got) output s ≡ nothing (p .end) (p .sent) (p .got) output (withState Open (p .end .progress))
+  at-half-opens : stateOf p ≡ Half → alike m (gotOf p) ≡ false → shapeOf m ≡ 1 →
+      atResponder (p .end) m (p .sent) (p .got) output (stateOf p) ≡ nothing (p .end) (p .sent) (p .got) output (withState Open (p .end .progress))
   unfolding atResponder
-  at-half-opens other third Half q = rw (other, eq-eqb (shapeOf m) 1 third)
-  at-half-opens other third Idle q = never (cc)
-  at-half-opens other third Sent q = never (cc)
-  at-half-opens other third Open q = never (cc)
-  at-half-opens other third GivenUp q = never (cc)
+  at-half-opens q other third = rw (q, other, eq-eqb (shapeOf m) 1 third)
 
-  at-sent : isLonger (shapeOf m) ≡ true → takenCode (shapeOf m) (sentOf p) m ≡ 0 → (s : State) → s ≡ Sent → atInitiator (p .end) m (p .sent) (p .got) output s ≡ opened (p .end) m (p .sent) (p .got) output
+  at-sent : stateOf p ≡ Sent → isLonger (shapeOf m) ≡ true → takenCode (shapeOf m) (sentOf p) m ≡ 0 →
+      atInitiator (p .end) m (p .sent) (p .got) output (stateOf p) ≡ opened (p .end) m (p .sent) (p .got) output
   unfolding atInitiator
-  at-sent long taken Sent q = rw (long, eq-eqb (takenCode (shapeOf m) (sentOf p) m) 0 taken)
-  at-sent long taken Idle q = never (cc)
-  at-sent long taken Half q = never (cc)
-  at-sent long taken Open q = never (cc)
-  at-sent long taken GivenUp q = never (cc)
+  at-sent q long taken = rw (q, long, eq-eqb (takenCode (shapeOf m) (sentOf p) m) 0 taken)
 
-  at-open-again : alike m (gotOf p) ≡ true → (s : State) → s ≡ Open → atInitiator (p .end) m (p .sent) (p .got) output s ≡ repeating (p .end) (p .sent) (p .got) output (p .end .progress)
+  at-open-again : stateOf p ≡ Open → alike m (gotOf p) ≡ true → atInitiator (p .end) m (p .sent) (p .got) output (stateOf p) ≡ repeating (p .end) (p .sent) (p .got) output (p .end .progress)
   unfolding atInitiator
-  at-open-again same Open q = rw same
-  at-open-again same Idle q = never (cc)
-  at-open-again same Sent q = never (cc)
-  at-open-again same Half q = never (cc)
-  at-open-again same GivenUp q = never (cc)
+  at-open-again q same = rw (q, same)
 
 -- what a good message does at the responder: it has sent its reply, or both are open
 abbrev pub GoodSecond : Party → List (List ℕ) → After → Type 0
@@ -203,45 +143,32 @@ pub record GoodFirst (three : List ℕ) (fi : List (List ℕ)) (x : After) : Typ
   pub is-open : stateOf (left x) ≡ Open
   pub writes : logged x fi ≡ three ∷ fi
 
-half-up : (s : State) → s ≡ Half → isGivenUp s ≡ false
-unfolding isGivenUp
-half-up s e = rw e
-
-idle-up : (s : State) → s ≡ Idle → isGivenUp s ≡ false
-unfolding isGivenUp
-idle-up s e = rw e
-
-sent-up : (s : State) → s ≡ Sent → isGivenUp s ≡ false
-unfolding isGivenUp
-sent-up s e = rw e
-
-open-up : (s : State) → s ≡ Open → isGivenUp s ≡ false
-unfolding isGivenUp
-open-up s e = rw e
-
 module _ (i r : Party) (pair : Pair (i .end .own) (r .end .own)) (a : Ask (i .end .own)) where
-  -- ---- the three messages as they are read
-
-  pub one-longer : (m : List ℕ) → alike m (offered a) ≡ true → Longer (i .end .own) (a .id) (offerOf (i .end .own)) (a .first) (a .second) m
-  one-longer m s = one-reads (i .end .own) (pair .fit-one) (a .some) (a .id) (a .some-id) (a .small-id) (a .first) (a .second) (a .identities) m s
-
-  pub three-third : (m : List ℕ) → alike m (messageThree (i .end .own) (a .id)) ≡ true → Third (i .end .own) (a .id) m
-  three-third m s = third-reads (i .end .own) (a .id) (pair .fit-one) (a .some-id) (a .small-id) m s
-
   -- the offer is the same whatever the hash bytes
-  pub same-offer : (m : List ℕ) → alike m (offered a) ≡ true → bodyAt 1 m ≡ bodyAt 1 (offered a)
-  same-offer m s = one-longer m s .sa ∙ sym (one-longer (offered a) (alike-same (offered a)) .sa)
+  same-offer : (m : List ℕ) → alike m (offered a) ≡ true → bodyAt 1 m ≡ bodyAt 1 (offered a)
+  same-offer m s = one-read (pair .fit-one) a m s .sa ∙ sym (one-read (pair .fit-one) a (offered a) (alike-same (offered a)) .sa)
+
+  abbrev suits-too : (m : List ℕ) → alike m (offered a) ≡ true → Suits (r .end .own) (offered a) → Suits (r .end .own) m
+  suits-too m s c = record {
+    number = c .number;
+    line = c .line;
+    transforms = c .transforms;
+    chosen = ap (λ (b : List ℕ). chooseFrom 32 (bookOf (r .end .own)) b) (same-offer m s) ∙ c .chosen;
+  }
+
+  awake : (isInitiator (r .end .own .role) && isIdle (stateOf r)) ≡ false
+  awake = rw (second-is (r .end .own .role) (pair .is-second))
 
   one-passes : (m : List ℕ) → alike m (offered a) ≡ true → (isIdle (stateOf r) ≡ true) ⊎ (r .end .progress .id ≡ a .id) → readCode (r .end .own) (stateOf r) (r .end .progress .id) m (message m) ≡ 0
   one-passes m s at =
-      longer-passes (i .end .own) (r .end .own) (a .id) (offerOf (i .end .own)) (a .first) (a .second) m (one-longer m s) (sym (pair .icookies)) (sym (pair .rcookies)) (stateOf r) (r .end .progress .id)
-      (awake-second (r .end .own .role) (stateOf r) (second-is (r .end .own .role) (pair .is-second)))
+      longer-passes (i .end .own) (r .end .own) (a .id) (offerOf (i .end .own)) (a .first) (a .second) m (one-read (pair .fit-one) a m s) (sym (pair .icookies)) (sym (pair .rcookies)) (stateOf r)
+      (r .end .progress .id)
+      awake
       at
 
   three-passes : (m : List ℕ) → alike m (messageThree (i .end .own) (a .id)) ≡ true → r .end .progress .id ≡ a .id → readCode (r .end .own) (stateOf r) (r .end .progress .id) m (message m) ≡ 0
   three-passes m s at =
-      third-passes (i .end .own) (r .end .own) (a .id) m (three-third m s) (sym (pair .icookies)) (sym (pair .rcookies)) (stateOf r) (r .end .progress .id)
-      (awake-second (r .end .own .role) (stateOf r) (second-is (r .end .own .role) (pair .is-second)))
+      third-passes (i .end .own) (r .end .own) (a .id) m (three-read (pair .fit-one) a m s) (sym (pair .icookies)) (sym (pair .rcookies)) (stateOf r) (r .end .progress .id) awake
       (inr at)
 
   -- message 3 is shorter than message 1
@@ -250,119 +177,100 @@ module _ (i r : Party) (pair : Pair (i .end .own) (r .end .own)) (a : Ask (i .en
       by-test (alike m g)
       (λ e.
       let same = alike-says m g e .as-long in
-      let short = three-third m s .long in
-      let long = one-longer g from .long in
+      let short = three-read (pair .fit-one) a m s .long in
+      let long = one-read (pair .fit-one) a g from .long in
       absurd (omega arith))
       (λ e. e)
 
   -- two offers that are the same have the same message ID
   same-id : (b : Ask (i .end .own)) → offered a ≡ offered b → b .id ≡ a .id
   same-id b e =
-      sym (one-reads (i .end .own) (pair .fit-one) (b .some) (b .id) (b .some-id) (b .small-id) (b .first) (b .second) (b .identities) (offered b) (alike-same (offered b)) .framed .its-id)
-      ∙ ap (λ (n : List ℕ). numberAt 4 n 20) (sym e) ∙ one-longer (offered a) (alike-same (offered a)) .framed .its-id
+      sym (one-read (pair .fit-one) b (offered b) (alike-same (offered b)) .framed .its-id)
+      ∙ ap (λ (n : List ℕ). numberAt 4 n 20) (sym e) ∙ one-read (pair .fit-one) a (offered a) (alike-same (offered a)) .framed .its-id
 
   -- ---- at the responder
 
-  idle-answers : (m output : List ℕ) (number : ProposalNumber) (line : LineNumber) (transforms : Transforms) → stateOf r ≡ Idle → alike m (offered a) ≡ true →
-      chooseFrom 32 (bookOf (r .end .own)) (bodyAt 1 (offered a)) ≡ Chosen number line transforms → FullSize r output →
-      called r (deliver m true output) ≡ halfway (r .end) m (r .sent) (r .got) output number transforms (setNumbered number (bodyAt 1 m))
-  idle-answers m output number line transforms q s chosen room =
-      taken-second r m output room (idle-up (stateOf r) q) (one-passes m s (inl (idle-idle (stateOf r) q))) (pair .is-second)
-      ∙ at-idle r m output number line transforms (ap isLonger (one-longer m s .shape) ∙ longer-is (a .first)) (ap (λ (b : List ℕ). chooseFrom 32 (bookOf (r .end .own)) b) (same-offer m s) ∙ chosen) (stateOf r) q
+  module _ (fr : List (List ℕ)) where
+    good-answer : (m output : List ℕ) → stateOf r ≡ Idle → alike m (offered a) ≡ true → Suits (r .end .own) (offered a) → FullSize r output → GoodSecond i fr (called r (deliver m true output))
+    unfolding halfway isGivenUp isIdle
+    good-answer m output q s c room =
+        let here = suits-too m s c in
+        let reply : List ℕ = replyOf (r .end .own) m here in
+        let short = two-short pair a m s here in
+        let its = taken-second r m output room (ap isGivenUp q) (one-passes m s (inl (ap isIdle q))) (pair .is-second) ∙ at-idle r m output q (ap isLonger (one-read (pair .fit-one) a m s .shape) ∙ longer-is (a .first)) here in
+        rw its
+        (inl (refl, sends-it r reply (answers-with r m output here .step .end .progress) (paste (r .got) 0 m) output short room fr ∙ ap (λ (n : List ℕ). n ∷ fr) (sym (keeps-it (r .sent) reply short (room .in-sent)))))
 
-  module _ (fr : List (List ℕ)) (R : Replied a r fr) where
-    half-again : (m output : List ℕ) → stateOf r ≡ Half → alike m (offered a) ≡ true → FullSize r output →
-        called r (deliver m true output) ≡ repeating (r .end) (r .sent) (r .got) output (r .end .progress)
-    half-again m output q s room =
-        taken-second r m output room (half-up (stateOf r) q) (one-passes m s (inr (R .keeps .its-id))) (pair .is-second)
-        ∙ at-half-again r m output (alike-trans m (offered a) (gotOf r) s (alike-sym (gotOf r) (offered a) (R .from))) (stateOf r) q
+    module _ (R : Replied a r fr) where
+      good-again : (m output : List ℕ) → stateOf r ≡ Half → alike m (offered a) ≡ true → FullSize r output → GoodSecond i fr (called r (deliver m true output))
+      unfolding isGivenUp
+      good-again m output q s room =
+          let its = taken-second r m output room (ap isGivenUp q) (one-passes m s (inr (R .keeps .its-id))) (pair .is-second)
+          ∙ at-half-again r m output q (alike-trans m (offered a) (gotOf r) s (alike-sym (gotOf r) (offered a) (R .from))) in
+          rw its
+          (inl (q, again r (a .id) (sentOf r) output (record { sent-room = R .keeps .sent-room; got-room = R .keeps .got-room; its-sent = refl; its-id = R .keeps .its-id }) room (r .end .progress) fr))
 
-    half-opens : (m output : List ℕ) → stateOf r ≡ Half → alike m (messageThree (i .end .own) (a .id)) ≡ true → FullSize r output →
-        called r (deliver m true output) ≡ nothing (r .end) (r .sent) (r .got) output (withState Open (r .end .progress))
-    half-opens m output q s room =
-        taken-second r m output room (half-up (stateOf r) q) (three-passes m s (R .keeps .its-id)) (pair .is-second)
-        ∙ at-half-opens r m output (not-alike m (gotOf r) s (R .from)) (three-third m s .shape) (stateOf r) q
+      opens-then : (m output : List ℕ) → stateOf r ≡ Half → alike m (messageThree (i .end .own) (a .id)) ≡ true → FullSize r output → stateOf (left (called r (deliver m true output))) ≡ Open
+      unfolding withState isGivenUp
+      opens-then m output q s room =
+          ap (λ (x : After). stateOf (left x))
+          (taken-second r m output room (ap isGivenUp q) (three-passes m s (R .keeps .its-id)) (pair .is-second)
+          ∙ at-half-opens r m output q (not-alike m (gotOf r) s (R .from)) (three-read (pair .fit-one) a m s .shape))
 
-    good-again : (m output : List ℕ) → stateOf r ≡ Half → alike m (offered a) ≡ true → FullSize r output → GoodSecond i fr (called r (deliver m true output))
-    good-again m output q s room =
-        subst (λ (x : After). GoodSecond i fr x) (sym (half-again m output q s room))
-        (inl (q, again r (a .id) (sentOf r) (record { sent-room = R .keeps .sent-room; got-room = R .keeps .got-room; its-sent = refl; its-id = R .keeps .its-id }) output room (r .end .progress) fr))
+      -- ---- at the initiator
 
-    opens-then : (m output : List ℕ) → stateOf r ≡ Half → alike m (messageThree (i .end .own) (a .id)) ≡ true → FullSize r output → stateOf (left (called r (deliver m true output))) ≡ Open
-    unfolding withState
-    opens-then m output q s room = ap (λ (x : After). stateOf (left x)) (half-opens m output q s room)
+      two-passes : (m : List ℕ) → alike m (replyOf (r .end .own) (gotOf r) (R .suits)) ≡ true → isIdle (stateOf i) ≡ false → i .end .progress .id ≡ a .id →
+          (readCode (i .end .own) (stateOf i) (i .end .progress .id) m (message m) ≡ 0) × (isLonger (shapeOf m) ≡ true)
+      two-passes m s up at =
+          let l = two-read pair a (gotOf r) (R .from) (R .suits) m s in (
+            longer-passes (r .end .own) (i .end .own) (a .id) _ (a .first) (a .second) m l (pair .icookies) (pair .rcookies) (stateOf i) (i .end .progress .id)
+                (rw up (and-false (isInitiator (i .end .own .role))))
+                (inr at),
+            ap isLonger (l .shape) ∙ longer-is (a .first),
+          )
 
-    -- ---- at the initiator
+      sent-opens : (m output : List ℕ) → stateOf i ≡ Sent → Keeps i (a .id) (offered a) → alike m (replyOf (r .end .own) (gotOf r) (R .suits)) ≡ true → FullSize i output →
+          called i (deliver m true output) ≡ opened (i .end) m (i .sent) (i .got) output
+      unfolding isGivenUp isIdle
+      sent-opens m output q k s room =
+          let passes = two-passes m s (ap isIdle q) (k .its-id) in
+          let taken : takenCode (shapeOf m) (sentOf i) m ≡ 0 = rw (k .its-sent) (two-takes pair a (gotOf r) (R .from) (R .suits) m s) in
+          taken-first i m output room (ap isGivenUp q) (passes .0) (pair .is-first) ∙ at-sent i m output q (passes .1) taken
 
-    two-passes : (m : List ℕ) → alike m (replyTo (r .end .own) (gotOf r) (R .number) (R .transforms)) ≡ true → isIdle (stateOf i) ≡ false → i .end .progress .id ≡ a .id →
-        (readCode (i .end .own) (stateOf i) (i .end .progress .id) m (message m) ≡ 0) × (isLonger (shapeOf m) ≡ true)
-    two-passes m s up at =
-        let l = two-reads (i .end .own) (r .end .own) (a .id) (a .first) (a .second) (gotOf r) (R .number) (R .line) (R .transforms) (its-answer i r [] fr pair a R) m s in (
-          longer-passes (r .end .own) (i .end .own) (a .id) (setReply (r .end .own .ah) (r .end .own .esp) (R .transforms) (setNumbered (R .number) (bodyAt 1 (gotOf r)))) (a .first) (a .second) m l
-              (pair .icookies)
-              (pair .rcookies)
-              (stateOf i)
-              (i .end .progress .id)
-              (awake-first (isInitiator (i .end .own .role)) (stateOf i) up)
-              (inr at),
-          ap isLonger (l .shape) ∙ longer-is (a .first),
-        )
+      open-again : (m output : List ℕ) → stateOf i ≡ Open → i .end .progress .id ≡ a .id → alike (gotOf i) (sentOf r) ≡ true →
+          alike m (replyOf (r .end .own) (gotOf r) (R .suits)) ≡ true → FullSize i output → called i (deliver m true output) ≡ repeating (i .end) (i .sent) (i .got) output (i .end .progress)
+      unfolding isGivenUp isIdle
+      open-again m output q at eg s room =
+          let passes = two-passes m s (ap isIdle q) at in
+          let same : alike m (sentOf r) ≡ true = rw (R .keeps .its-sent) s in
+          taken-first i m output room (ap isGivenUp q) (passes .0) (pair .is-first)
+          ∙ at-open-again i m output q (alike-trans m (sentOf r) (gotOf i) same (alike-sym (gotOf i) (sentOf r) eg))
 
-    sent-opens : (m output : List ℕ) → stateOf i ≡ Sent → Keeps i (a .id) (offered a) → alike m (replyTo (r .end .own) (gotOf r) (R .number) (R .transforms)) ≡ true → FullSize i output →
-        called i (deliver m true output) ≡ opened (i .end) m (i .sent) (i .got) output
-    sent-opens m output q k s room =
-        let passes = two-passes m s (not-idle-sent (stateOf i) q) (k .its-id) in
-        let taken : takenCode (shapeOf m) (sentOf i) m ≡ 0 =
-        ap (λ (n : List ℕ). takenCode (shapeOf m) n m) (k .its-sent)
-        ∙ two-taken (i .end .own) (r .end .own) (a .id) (a .first) (a .second) (gotOf r) (R .number) (R .line) (R .transforms) (its-answer i r [] fr pair a R) m s in
-        taken-first i m output room (sent-up (stateOf i) q) (passes .0) (pair .is-first) ∙ at-sent i m output (passes .1) taken (stateOf i) q
+-- message 2 as the initiator's call and the responder's policy determine it
+abbrev pub second-message : {one : Own} (two : Own) (b : Ask one) → Suits two (offered b) → List ℕ
+second-message two b s = messageTwo two (b .id) (s .transforms) (setNumbered (s .number) (bodyAt 1 (offered b))) (b .first) (b .second)
 
-    open-again : (m output : List ℕ) → stateOf i ≡ Open → i .end .progress .id ≡ a .id → alike (gotOf i) (sentOf r) ≡ true →
-        alike m (replyTo (r .end .own) (gotOf r) (R .number) (R .transforms)) ≡ true → FullSize i output → called i (deliver m true output) ≡ repeating (i .end) (i .sent) (i .got) output (i .end .progress)
-    open-again m output q at eg s room =
-        let passes = two-passes m s (not-idle-open (stateOf i) q) at in
-        let same : alike m (sentOf r) ≡ true = subst (λ (n : List ℕ). alike m n ≡ true) (sym (R .keeps .its-sent)) s in
-        taken-first i m output room (open-up (stateOf i) q) (passes .0) (pair .is-first)
-        ∙ at-open-again i m output (alike-trans m (sentOf r) (gotOf i) same (alike-sym (gotOf i) (sentOf r) eg)) (stateOf i) q
-
--- the reply is message 2 as the initiator's call and the responder's policy determine it
+-- is what the responder replies
 reply-is : (i r : Party) → Pair (i .end .own) (r .end .own) → (a b : Ask (i .end .own)) → offered a ≡ offered b →
-    (fr : List (List ℕ)) → (R : Replied a r fr) → (number : ProposalNumber) (line : LineNumber) (transforms : Transforms) →
-    chooseFrom 32 (bookOf (r .end .own)) (bodyAt 1 (offered b)) ≡ Chosen number line transforms →
-    replyTo (r .end .own) (gotOf r) (R .number) (R .transforms) ≡ messageTwo (r .end .own) (b .id) transforms (setNumbered number (bodyAt 1 (offered b))) (b .first) (b .second)
-reply-is i r pair a b e fr R number line transforms chosen =
-    let from : alike (gotOf r) (offered b) ≡ true = subst (λ (n : List ℕ). alike (gotOf r) n ≡ true) e (R .from) in
-    let l = one-longer i r pair b (gotOf r) from in
+    (fr : List (List ℕ)) → (R : Replied a r fr) → (s : Suits (r .end .own) (offered b)) → replyOf (r .end .own) (gotOf r) (R .suits) ≡ second-message (r .end .own) b s
+reply-is i r pair a b e fr R s =
+    let from : alike (gotOf r) (offered b) ≡ true = rw e at (R .from) in
+    let l = one-read (pair .fit-one) b (gotOf r) from in
     let body = same-offer i r pair b (gotOf r) from in
-    let both : Chosen (R .number) (R .line) (R .transforms) ≡ Chosen number line transforms = sym (R .chosen) ∙ ap (λ (n : List ℕ). chooseFrom 32 (bookOf (r .end .own)) n) body ∙ chosen in
-    let numbers : R .number ≡ number = cc in
-    let them : R .transforms ≡ transforms = cc in
+    let both : Chosen (R .suits .number) (R .suits .line) (R .suits .transforms) ≡ Chosen (s .number) (s .line) (s .transforms) =
+    sym (R .suits .chosen) ∙ suits-too i r pair b (gotOf r) from s .chosen in
+    let numbers : R .suits .number ≡ s .number = cc in
+    let them : R .suits .transforms ≡ s .transforms = cc in
     rw (l .framed .its-id, body, l .identity-one, l .identity-two, numbers, them)
 
--- ---- a good message at the responder, at every stage
-
-answers-good : (i r : Party) (fr : List (List ℕ)) → Pair (i .end .own) (r .end .own) → (a : Ask (i .end .own)) (m output : List ℕ) (number : ProposalNumber) (line : LineNumber) (transforms : Transforms) → stateOf r ≡ Idle →
-    alike m (offered a) ≡ true → chooseFrom 32 (bookOf (r .end .own)) (bodyAt 1 (offered a)) ≡ Chosen number line transforms → FullSize r output → GoodSecond i fr (called r (deliver m true output))
-unfolding halfway
-answers-good i r fr pair a m output number line transforms q s chosen room =
-    let its = answered-by pair a m number line transforms s (ap (λ (b : List ℕ). chooseFrom 32 (bookOf (r .end .own)) b) (same-offer i r pair a m s) ∙ chosen) in
-    let reply : List ℕ = replyTo (r .end .own) m number transforms in
-    let short : length reply ≤ 2048 =
-    two-reads (i .end .own) (r .end .own) (a .id) (a .first) (a .second) m number line transforms its reply (alike-same reply) .framed .short in
-    let progress : Progress = halfway (r .end) m (r .sent) (r .got) output number transforms (setNumbered number (bodyAt 1 m)) .step .end .progress in
-    subst (λ (x : After). GoodSecond i fr x) (sym (idle-answers i r pair a m output number line transforms q s chosen room))
-    (inl (refl, sends-it r reply progress (paste (r .got) 0 m) output short room fr ∙ ap (λ (n : List ℕ). n ∷ fr) (sym (keeps-it (r .sent) reply short (room .in-sent)))))
+-- ---- a good message at every stage
 
 module _ (i r : Party) (fi fr : List (List ℕ)) (pair : Pair (i .end .own) (r .end .own)) (b : Ask (i .end .own)) (first : Oldest (offered b) fi) where
-  pub good-second : Stage i r fi fr → (m output : List ℕ) (number : ProposalNumber) (line : LineNumber) (transforms : Transforms) → isGivenUp (stateOf r) ≡ false →
-      chooseFrom 32 (bookOf (r .end .own)) (bodyAt 1 (offered b)) ≡ Chosen number line transforms → FullSize r output → Heard m fi → GoodSecond i fr (called r (deliver m true output))
-  good-second (new ei er ni nr) m output number line transforms up chosen room h = clash (none-heard m ni h)
-  good-second (asked a ei k o er nr) m output number line transforms up chosen room h =
-      answers-good i r fr pair a m output number line transforms er (only-heard m o h)
-      (ap (λ (n : List ℕ). chooseFrom 32 (bookOf (r .end .own)) (bodyAt 1 n)) (only-oldest o first) ∙ chosen)
-      room
-  good-second (half a ei k o R er) m output number line transforms up chosen room h = good-again i r pair a fr R m output (answering-half (stateOf r) er up) (only-heard m o h) room
-  good-second (done a ei k o R er ev eg) m output number line transforms up chosen room h =
+  pub good-second : Stage i r fi fr → (m output : List ℕ) → (stateOf r ≡ GivenUp → ⊥) → Suits (r .end .own) (offered b) → FullSize r output → Heard m fi → GoodSecond i fr (called r (deliver m true output))
+  good-second (new ei er ni nr) m output up c room h = clash (none-heard m ni h)
+  good-second (asked a ei k o er nr) m output up c room h = good-answer i r pair a fr m output er (only-heard m o h) (rw (only-oldest o first) c) room
+  good-second (half a ei k o R er) m output up c room h = good-again i r pair a fr R m output (answering-half (stateOf r) er up) (only-heard m o h) room
+  good-second (done a ei k o R er ev eg) m output up c room h =
       ⊎-elim
       (λ q.
       ⊎-elim (λ s. good-again i r pair a fr R m output q s room) (λ s. inr (opens-then i r pair a fr R m output q s room, ei)) (then-heard m o h))
@@ -370,46 +278,40 @@ module _ (i r : Party) (fi fr : List (List ℕ)) (pair : Pair (i .end .own) (r .
       (past-up (stateOf r) er up)
 
   -- message 3 at the responder, where the initiator is open
-  pub third-opens : Stage i r fi fr → (m output : List ℕ) → isGivenUp (stateOf r) ≡ false → stateOf i ≡ Open → alike m (messageThree (i .end .own) (b .id)) ≡ true → FullSize r output →
+  pub third-opens : Stage i r fi fr → (m output : List ℕ) → (stateOf r ≡ GivenUp → ⊥) → stateOf i ≡ Open → alike m (messageThree (i .end .own) (b .id)) ≡ true → FullSize r output →
       stateOf (left (called r (deliver m true output))) ≡ Open
   third-opens (new ei er ni nr) m output up q s room = never (cc)
   third-opens (asked a ei k o er nr) m output up q s room = clash (cc)
   third-opens (half a ei k o R er) m output up q s room = clash (cc)
   third-opens (done a ei k o R er ev eg) m output up q s room =
-      let same : messageThree (i .end .own) (b .id) ≡ messageThree (i .end .own) (a .id) = ap (messageThree (i .end .own)) (same-id i r pair a b (then-oldest o first)) in
-      ⊎-elim (λ h. opens-then i r pair a fr R m output h (subst (λ (n : List ℕ). alike m n ≡ true) same s) room) (λ h. ap stateOf (open-rests r h (deliver m true output)) ∙ h)
+      ⊎-elim (λ h. opens-then i r pair a fr R m output h (rw (same-id i r pair a b (then-oldest o first)) at s) room) (λ h. ap stateOf (open-rests r h (deliver m true output)) ∙ h)
       (past-up (stateOf r) er up)
 
   -- message 2 at the initiator
-  pub good-first : Stage i r fi fr → (m output : List ℕ) → isGivenUp (stateOf i) ≡ false → FullSize i output → Heard m fr → GoodFirst (messageThree (i .end .own) (b .id)) fi (called i (deliver m true output))
+  pub good-first : Stage i r fi fr → (m output : List ℕ) → (stateOf i ≡ GivenUp → ⊥) → FullSize i output → Heard m fr → GoodFirst (messageThree (i .end .own) (b .id)) fi (called i (deliver m true output))
   unfolding opened
   good-first (new ei er ni nr) m output up room h = clash (none-heard m nr h)
   good-first (asked a ei k o er nr) m output up room h = clash (none-heard m nr h)
   good-first (half a ei k o R er) m output up room h =
-      let eq = sent-opens i r pair a fr R m output (asking-sent (stateOf i) ei up) k (only-heard m (R .only) h) room in
-      let three : messageThree (i .end .own) (i .end .progress .id) ≡ messageThree (i .end .own) (a .id) = ap (messageThree (i .end .own)) (k .its-id) in
-      let same : messageThree (i .end .own) (a .id) ≡ messageThree (i .end .own) (b .id) = ap (messageThree (i .end .own)) (sym (same-id i r pair a b (only-oldest o first))) in
-      let short : length (messageThree (i .end .own) (i .end .progress .id)) ≤ 2048 = subst (λ (n : List ℕ). length n ≤ 2048) (sym three) (three-short (pair .fit-one) a) in
+      let three : i .end .progress .id ≡ b .id = k .its-id ∙ sym (same-id i r pair a b (only-oldest o first)) in
+      let short : length (messageThree (i .end .own) (i .end .progress .id)) ≤ 2048 = rw three (three-short (pair .fit-one) b) in
       let progress : Progress = opened (i .end) m (i .sent) (i .got) output .step .end .progress in
-      subst (λ (x : After). GoodFirst (messageThree (i .end .own) (b .id)) fi x) (sym eq)
+      rw (sent-opens i r pair a fr R m output (asking-sent (stateOf i) ei up) k (only-heard m (R .only) h) room)
       (record {
         is-open = refl;
-        writes = sends-it i (messageThree (i .end .own) (i .end .progress .id)) progress (paste (i .got) 0 m) output short room fi ∙ ap (λ (n : List ℕ). n ∷ fi) (three ∙ same);
+        writes = sends-it i (messageThree (i .end .own) (i .end .progress .id)) progress (paste (i .got) 0 m) output short room fi ∙ ap (λ (n : ℕ). messageThree (i .end .own) n ∷ fi) three;
       })
   good-first (done a ei k o R er ev eg) m output up room h =
-      let eq = open-again i r pair a fr R m output ei (k .its-id) eg (only-heard m (R .only) h) room in
-      let same : messageThree (i .end .own) (a .id) ≡ messageThree (i .end .own) (b .id) = ap (messageThree (i .end .own)) (sym (same-id i r pair a b (then-oldest o first))) in
-      subst (λ (x : After). GoodFirst (messageThree (i .end .own) (b .id)) fi x) (sym eq)
-      (record { is-open = ei; writes = again i (a .id) (messageThree (i .end .own) (a .id)) k output room (i .end .progress) fi ∙ ap (λ (n : List ℕ). n ∷ fi) same })
+      rw (open-again i r pair a fr R m output ei (k .its-id) eg (only-heard m (R .only) h) room, same-id i r pair a b (then-oldest o first))
+      (record { is-open = ei; writes = again i (a .id) (messageThree (i .end .own) (a .id)) output k room (i .end .progress) fi })
 
   -- ---- what has been written by then
 
-  pub written-two : Stage i r fi fr → (number : ProposalNumber) (line : LineNumber) (transforms : Transforms) → past (stateOf r) ≡ true →
-      chooseFrom 32 (bookOf (r .end .own)) (bodyAt 1 (offered b)) ≡ Chosen number line transforms → Only (messageTwo (r .end .own) (b .id) transforms (setNumbered number (bodyAt 1 (offered b))) (b .first) (b .second)) fr
-  written-two (new ei er ni nr) number line transforms q chosen = clash (cc)
-  written-two (asked a ei k o er nr) number line transforms q chosen = clash (cc)
-  written-two (half a ei k o R er) number line transforms q chosen = subst (λ (n : List ℕ). Only n fr) (reply-is i r pair a b (only-oldest o first) fr R number line transforms chosen) (R .only)
-  written-two (done a ei k o R er ev eg) number line transforms q chosen = subst (λ (n : List ℕ). Only n fr) (reply-is i r pair a b (then-oldest o first) fr R number line transforms chosen) (R .only)
+  pub written-two : Stage i r fi fr → (s : Suits (r .end .own) (offered b)) → past (stateOf r) ≡ true → Only (second-message (r .end .own) b s) fr
+  written-two (new ei er ni nr) s q = clash (cc)
+  written-two (asked a ei k o er nr) s q = clash (cc)
+  written-two (half a ei k o R er) s q = subst (λ (n : List ℕ). Only n fr) (reply-is i r pair a b (only-oldest o first) fr R s) (R .only)
+  written-two (done a ei k o R er ev eg) s q = subst (λ (n : List ℕ). Only n fr) (reply-is i r pair a b (then-oldest o first) fr R s) (R .only)
 
   pub written-three : Stage i r fi fr → stateOf i ≡ Open → Then (offered b) (messageThree (i .end .own) (b .id)) fi
   written-three (new ei er ni nr) q = never (cc)
@@ -417,7 +319,7 @@ module _ (i r : Party) (fi fr : List (List ℕ)) (pair : Pair (i .end .own) (r .
   written-three (half a ei k o R er) q = clash (cc)
   written-three (done a ei k o R er ev eg) q =
       let e = then-oldest o first in
-      subst (λ (n : ℕ). Then (offered b) (messageThree (i .end .own) n) fi) (sym (same-id i r pair a b e)) (subst (λ (n : List ℕ). Then n (messageThree (i .end .own) (a .id)) fi) e o)
+      subst (λ (n : ℕ). Then (offered b) (messageThree (i .end .own) n) fi) (sym (same-id i r pair a b e)) (rw e at o)
 
 -- ---- over traces
 
@@ -425,7 +327,7 @@ past-second : {p : Party} {other : List (List ℕ)} {x : After} → MoveR p othe
 unfolding halfway withState oneMore
 past-second (MoveR.refuses output number) q = q
 past-second (MoveR.rests output) q = q
-past-second (MoveR.answers m output number line transforms room s h e) q = refl
+past-second (MoveR.answers m output c room s h) q = refl
 past-second (MoveR.repeats output room s) q = q
 past-second (MoveR.opens m output s h d) q = refl
 past-second (MoveR.resends output room s) q = q
@@ -446,88 +348,65 @@ module _ {w : World} (f : Fresh w) where
   past-run k (goes {u = z} l (atSecond c) fair) q =
       past-second (moves-second (z .responder) (z .fromInitiator) (always f (runs k l) .pair .is-second) c fair) (past-run k l q)
 
-  module _ (b : Ask (w .initiator .end .own)) (number : ProposalNumber) (line : LineNumber) (transforms : Transforms)
-      (suits : chooseFrom 32 (bookOf (w .responder .end .own)) (bodyAt 1 (offered b)) ≡ Chosen number line transforms) where
-    abbrev pub second-message : List ℕ
-    second-message = messageTwo (w .responder .end .own) (b .id) transforms (setNumbered number (bodyAt 1 (offered b))) (b .first) (b .second)
-
-    abbrev pub third-message : List ℕ
+  module _ (b : Ask (w .initiator .end .own)) (s : Suits (w .responder .end .own) (offered b)) where
+    abbrev third-message : List ℕ
     third-message = messageThree (w .initiator .end .own) (b .id)
 
-    -- at any moment u after message 1 was written
+    -- at any moment u after message 1 was written, what is so of an offer of the initiator there is so of b
     module _ {u : World} (k : Run w u) (first : Oldest (offered b) (u .fromInitiator)) where
-      suits-there : chooseFrom 32 (bookOf (u .responder .end .own)) (bodyAt 1 (offered b)) ≡ Chosen number line transforms
-      suits-there = ap (λ (own : Own). chooseFrom 32 (bookOf own) (bodyAt 1 (offered b))) (own-run k .1) ∙ suits
+      of-b : (A : (one two : Own) (c : Ask one) → Suits two (offered c) → Type 0) →
+          ((c : Ask (u .initiator .end .own)) (t : Suits (u .responder .end .own) (offered c)) → Oldest (offered c) (u .fromInitiator) → A (u .initiator .end .own) (u .responder .end .own) c t) →
+          A (w .initiator .end .own) (w .responder .end .own) b s
+      of-b A f =
+          subst (λ (one : Own). (c : Ask one) (t : Suits (w .responder .end .own) (offered c)) → Oldest (offered c) (u .fromInitiator) → A one (w .responder .end .own) c t) (own-run k .0)
+          (subst (λ (two : Own). (c : Ask (u .initiator .end .own)) (t : Suits two (offered c)) → Oldest (offered c) (u .fromInitiator) → A (u .initiator .end .own) two c t) (own-run k .1) f)
+          b
+          s
+          first
 
-      arrives-second : (m output : List ℕ) → isGivenUp (stateOf (u .responder)) ≡ false → FullSize (u .responder) output → Heard m (u .fromInitiator) →
+      holding : Inv (u .initiator) (u .responder) (u .fromInitiator) (u .fromResponder)
+      holding = always f k
+
+      arrives-second : (m output : List ℕ) → (stateOf (u .responder) ≡ GivenUp → ⊥) → FullSize (u .responder) output → Heard m (u .fromInitiator) →
           GoodSecond (u .initiator) (u .fromResponder) (called (u .responder) (deliver m true output))
       arrives-second m output up room h =
-          let v = always f k in
-          subst
-          (λ (own : Own). (c : Ask own) → Oldest (offered c) (u .fromInitiator) → chooseFrom 32 (bookOf (u .responder .end .own)) (bodyAt 1 (offered c)) ≡ Chosen number line transforms →
-          GoodSecond (u .initiator) (u .fromResponder) (called (u .responder) (deliver m true output)))
-          (own-run k .0)
-          (λ c o e. good-second (u .initiator) (u .responder) (u .fromInitiator) (u .fromResponder) (v .pair) c o (v .stage) m output number line transforms up e room h)
-          b
-          first
-          suits-there
+          of-b (λ one two c t. GoodSecond (u .initiator) (u .fromResponder) (called (u .responder) (deliver m true output)))
+          (λ c t o. good-second (u .initiator) (u .responder) (u .fromInitiator) (u .fromResponder) (holding .pair) c o (holding .stage) m output up t room h)
 
-      arrives-first : (m output : List ℕ) → isGivenUp (stateOf (u .initiator)) ≡ false → FullSize (u .initiator) output → Heard m (u .fromResponder) →
+      arrives-first : (m output : List ℕ) → (stateOf (u .initiator) ≡ GivenUp → ⊥) → FullSize (u .initiator) output → Heard m (u .fromResponder) →
           GoodFirst third-message (u .fromInitiator) (called (u .initiator) (deliver m true output))
       arrives-first m output up room h =
-          let v = always f k in
-          subst
-          (λ (own : Own). (c : Ask own) → Oldest (offered c) (u .fromInitiator) → GoodFirst (messageThree own (c .id)) (u .fromInitiator) (called (u .initiator) (deliver m true output)))
-          (own-run k .0)
-          (λ c o. good-first (u .initiator) (u .responder) (u .fromInitiator) (u .fromResponder) (v .pair) c o (v .stage) m output up room h)
-          b
-          first
+          of-b (λ one two c t. GoodFirst (messageThree one (c .id)) (u .fromInitiator) (called (u .initiator) (deliver m true output)))
+          (λ c t o. good-first (u .initiator) (u .responder) (u .fromInitiator) (u .fromResponder) (holding .pair) c o (holding .stage) m output up room h)
 
-      arrives-third : (m output : List ℕ) → isGivenUp (stateOf (u .responder)) ≡ false → FullSize (u .responder) output → stateOf (u .initiator) ≡ Open → alike m third-message ≡ true →
+      arrives-third : (m output : List ℕ) → (stateOf (u .responder) ≡ GivenUp → ⊥) → FullSize (u .responder) output → stateOf (u .initiator) ≡ Open → alike m third-message ≡ true →
           stateOf (left (called (u .responder) (deliver m true output))) ≡ Open
-      arrives-third m output up room q s =
-          let v = always f k in
-          subst
-          (λ (own : Own). (c : Ask own) → Oldest (offered c) (u .fromInitiator) → alike m (messageThree own (c .id)) ≡ true → stateOf (left (called (u .responder) (deliver m true output))) ≡ Open)
-          (own-run k .0)
-          (λ c o e. third-opens (u .initiator) (u .responder) (u .fromInitiator) (u .fromResponder) (v .pair) c o (v .stage) m output up q e room)
-          b
-          first
-          s
+      arrives-third m output up room q =
+          of-b (λ one two c t. alike m (messageThree one (c .id)) ≡ true → stateOf (left (called (u .responder) (deliver m true output))) ≡ Open)
+          (λ c t o e. third-opens (u .initiator) (u .responder) (u .fromInitiator) (u .fromResponder) (holding .pair) c o (holding .stage) m output up q e room)
 
-      two-there : past (stateOf (u .responder)) ≡ true → Only second-message (u .fromResponder)
+      two-there : past (stateOf (u .responder)) ≡ true → Only (second-message (w .responder .end .own) b s) (u .fromResponder)
       two-there q =
-          let v = always f k in
-          subst (λ (own : Own). Only (messageTwo own (b .id) transforms (setNumbered number (bodyAt 1 (offered b))) (b .first) (b .second)) (u .fromResponder)) (own-run k .1)
-          (subst
-          (λ (own : Own). (c : Ask own) → Oldest (offered c) (u .fromInitiator) → chooseFrom 32 (bookOf (u .responder .end .own)) (bodyAt 1 (offered c)) ≡ Chosen number line transforms →
-          Only (messageTwo (u .responder .end .own) (c .id) transforms (setNumbered number (bodyAt 1 (offered c))) (c .first) (c .second)) (u .fromResponder))
-          (own-run k .0)
-          (λ c o e. written-two (u .initiator) (u .responder) (u .fromInitiator) (u .fromResponder) (v .pair) c o (v .stage) number line transforms q e)
-          b
-          first
-          suits-there)
+          of-b (λ one two c t. Only (second-message two c t) (u .fromResponder))
+          (λ c t o. written-two (u .initiator) (u .responder) (u .fromInitiator) (u .fromResponder) (holding .pair) c o (holding .stage) t q)
 
       three-there : stateOf (u .initiator) ≡ Open → Then (offered b) third-message (u .fromInitiator)
       three-there q =
-          let v = always f k in
-          subst (λ (own : Own). (c : Ask own) → Oldest (offered c) (u .fromInitiator) → Then (offered c) (messageThree own (c .id)) (u .fromInitiator)) (own-run k .0)
-          (λ c o. written-three (u .initiator) (u .responder) (u .fromInitiator) (u .fromResponder) (v .pair) c o (v .stage) q)
-          b
-          first
+          of-b (λ one two c t. Then (offered c) (messageThree one (c .id)) (u .fromInitiator))
+          (λ c t o. written-three (u .initiator) (u .responder) (u .fromInitiator) (u .fromResponder) (holding .pair) c o (holding .stage) q)
 
     -- once message 1 has arrived, two has been written
-    pub two-written : {u z : World} → Run w u → Oldest (offered b) (u .fromInitiator) → (m output : List ℕ) → alike m (offered b) ≡ true → isGivenUp (stateOf (u .responder)) ≡ false → FullSize (u .responder) output →
-        Run (step u (atSecond (deliver m true output))) z → Only second-message (z .fromResponder)
-    two-written {u} k first m output s up room l =
-        let heard = oldest-heard m first s in
+    pub two-written : {u z : World} → Run w u → Oldest (offered b) (u .fromInitiator) → (m output : List ℕ) → alike m (offered b) ≡ true → (stateOf (u .responder) ≡ GivenUp → ⊥) → FullSize (u .responder) output →
+        Run (step u (atSecond (deliver m true output))) z → Only (second-message (w .responder .end .own) b s) (z .fromResponder)
+    two-written {u} k first m output e up room l =
+        let heard = oldest-heard m first e in
         let there : Run w (step u (atSecond (deliver m true output))) = goes k (atSecond (deliver m true output)) (λ t. heard) in
         two-there (runs there l) (oldest-run l first)
         (past-run there l
-        (⊎-elim (λ g. subst (λ (t : State). past t ≡ true) (sym (g .0)) refl) (λ g. subst (λ (t : State). past t ≡ true) (sym (g .0)) refl) (arrives-second k first m output up room heard)))
+        (⊎-elim (λ g. ap past (g .0)) (λ g. ap past (g .0)) (arrives-second k first m output up room heard)))
 
     -- once two has arrived, three has been written
-    pub three-written : {u z : World} → Run w u → Oldest (offered b) (u .fromInitiator) → (m output : List ℕ) → Heard m (u .fromResponder) → isGivenUp (stateOf (u .initiator)) ≡ false → FullSize (u .initiator) output →
+    pub three-written : {u z : World} → Run w u → Oldest (offered b) (u .fromInitiator) → (m output : List ℕ) → Heard m (u .fromResponder) → (stateOf (u .initiator) ≡ GivenUp → ⊥) → FullSize (u .initiator) output →
         Run (step u (atFirst (deliver m true output))) z → (stateOf (z .initiator) ≡ Open) × Then (offered b) third-message (z .fromInitiator)
     three-written {u} {z} k first m output h up room l =
         let there : Run w (step u (atFirst (deliver m true output))) = goes k (atFirst (deliver m true output)) (λ t. h) in
@@ -537,10 +416,10 @@ module _ {w : World} (f : Fresh w) where
         (q′, three-there (runs there l) oldest q′)
 
     -- once three has arrived, both are open
-    pub both-open : {u z : World} → Run w u → Oldest (offered b) (u .fromInitiator) → (m output : List ℕ) → alike m third-message ≡ true → stateOf (u .initiator) ≡ Open → isGivenUp (stateOf (u .responder)) ≡ false →
+    pub both-open : {u z : World} → Run w u → Oldest (offered b) (u .fromInitiator) → (m output : List ℕ) → alike m third-message ≡ true → stateOf (u .initiator) ≡ Open → (stateOf (u .responder) ≡ GivenUp → ⊥) →
         FullSize (u .responder) output → Run (step u (atSecond (deliver m true output))) z → (stateOf (z .initiator) ≡ Open) × (stateOf (z .responder) ≡ Open)
-    both-open {u} {z} k first m output s q up room l =
-        let opens = arrives-third k first m output up room q s in
+    both-open {u} {z} k first m output e q up room l =
+        let opens = arrives-third k first m output up room q e in
         let h = open-run l in
         (ap stateOf (h .0 q) ∙ q, ap stateOf (h .1 opens) ∙ opens)
 
@@ -550,14 +429,11 @@ module _ {w : World} (f : Fresh w) where
     own-first-then : b .moment .initiator .end .own ≡ w .initiator .end .own
     own-first-then = own-run (b .run) .0
 
-    begins : Begins (b .moment .initiator .end) (b .id) (b .first) (b .second) (small (b .moment .initiator .sent) (b .moment .initiator .got) (b .output))
+    begins : Begins (b .moment .initiator) (b .id) (b .first) (b .second) (b .output)
     begins = begin-open (b .moment .initiator) (b .id) (b .first) (b .second) (b .output) (b .narrow) (b .taken) .0
 
-    its-room : FullSize (b .moment .initiator) (b .output)
-    its-room = begin-open (b .moment .initiator) (b .id) (b .first) (b .second) (b .output) (b .narrow) (b .taken) .1
-
     abbrev asks-then : Ask (b .moment .initiator .end .own)
-    asks-then = ask-of (b .moment .initiator .end) (b .id) (b .first) (b .second) begins (b .narrow)
+    asks-then = ask-of begins (b .narrow)
 
     abbrev asks : Ask (w .initiator .end .own)
     asks = record {
@@ -571,7 +447,7 @@ module _ {w : World} (f : Fresh w) where
     }
 
     its-call : called (b .moment .initiator) (beginCall b) ≡ begins-with (b .moment .initiator) asks-then (b .output)
-    its-call = begin-open (b .moment .initiator) (b .id) (b .first) (b .second) (b .output) (b .narrow) (b .taken) .2
+    its-call = begin-open (b .moment .initiator) (b .id) (b .first) (b .second) (b .output) (b .narrow) (b .taken) .1
 
     same-one : offered asks-then ≡ oneOf b
     same-one = ap (λ (own : Own). messageOne own (b .id) (b .first) (b .second)) own-first-then
@@ -585,7 +461,7 @@ module _ {w : World} (f : Fresh w) where
     pub begin-writes : afterBegin b .fromInitiator ≡ oneOf b ∷ []
     begin-writes =
         ap (λ (x : After). logged x (b .moment .fromInitiator)) its-call
-        ∙ sends-it (b .moment .initiator) (offered asks-then) (begins-with (b .moment .initiator) asks-then (b .output) .step .end .progress) (b .moment .initiator .got) (b .output) short-one its-room
+        ∙ sends-it (b .moment .initiator) (offered asks-then) (begins-with (b .moment .initiator) asks-then (b .output) .step .end .progress) (b .moment .initiator .got) (b .output) short-one (begins .room)
         (b .moment .fromInitiator)
         ∙ ap (λ (m : List ℕ). m ∷ b .moment .fromInitiator) same-one ∙ ap (λ (log : List (List ℕ)). oneOf b ∷ log) (silent f (b .run) (begins .is-idle))
 
@@ -603,7 +479,7 @@ module _ {w : World} (f : Fresh w) where
 
         pub two-then : {z : World} → Run (step a (atSecond (delivery x))) z → Only (twoOf b s) (z .fromResponder)
         two-then l =
-            two-written asks (s .number) (s .line) (s .transforms) (s .chosen) (runs begin-run k) (oldest-run k first-written) (x .bytes) (x .output) (x .equals) (up-is (stateOf (a .responder)) (x .up)) (x .full) l
+            two-written asks s (runs begin-run k) (oldest-run k first-written) (x .bytes) (x .output) (x .equals) (x .up) (x .full) l
 
         one-run : Run w (step a (atSecond (delivery x)))
         one-run = goes (runs begin-run k) (atSecond (delivery x)) one-fair
@@ -618,7 +494,7 @@ module _ {w : World} (f : Fresh w) where
 
           pub three-then : {z : World} → Run (step c (atFirst (delivery y))) z → (stateOf (z .initiator) ≡ Open) × Then (oneOf b) (threeOf b) (z .fromInitiator)
           three-then j =
-              three-written asks (s .number) (s .line) (s .transforms) (s .chosen) (runs one-run l) oldest-two (y .bytes) (y .output) (two-fair refl) (up-is (stateOf (c .initiator)) (y .up)) (y .full) j
+              three-written asks s (runs one-run l) oldest-two (y .bytes) (y .output) (two-fair refl) (y .up) (y .full) j
 
           two-run : Run w (step c (atFirst (delivery y)))
           two-run = goes (runs one-run l) (atFirst (delivery y)) two-fair
@@ -633,6 +509,6 @@ module _ {w : World} (f : Fresh w) where
 
             pub open-then : {z : World} → Run (step d (atSecond (delivery v))) z → (stateOf (z .initiator) ≡ Open) × (stateOf (z .responder) ≡ Open)
             open-then i =
-                both-open asks (s .number) (s .line) (s .transforms) (s .chosen) (runs two-run j) (oldest-run j oldest-three) (v .bytes) (v .output) (v .equals) (three-then j .0) (up-is (stateOf (d .responder)) (v .up))
+                both-open asks s (runs two-run j) (oldest-run j oldest-three) (v .bytes) (v .output) (v .equals) (three-then j .0) (v .up)
                 (v .full)
                 i

@@ -10,14 +10,12 @@ use lib.Seq.{length-take-le}
 use lib.Dec.{ltb, eqb}
 use borrow.Author.Tests.{eqb-true, eqb-false, eq-eqb, ltb-false, le-ltb, not-false}
 use Rattle.wire.specs.Wire.{paste}
+use Rattle.wire.specs.Tests.{if_then_else_}
 use Rattle.wire.proofs.Tests.{never, clash, both, neither, by-test, passed}
 use Rattle.wire.proofs.Laws.{paste-inside}
 use Rattle.identity.specs.Identity.{identity}
 use Rattle.sets.specs.Parts.{setNumbered}
-use Rattle.fields.specs.declared.ProposalNumber.{ProposalNumber}
 use Rattle.policy.specs.Choice.{bodyAt, chooseFrom}
-use Rattle.policy.specs.declared.LineNumber.{LineNumber}
-use Rattle.policy.specs.declared.Transforms.{Transforms}
 use Rattle.policy.specs.declared.Choice.{Choice}
 use Rattle.policy.specs.declared.Choice.the-variants as choices
 use Rattle.writing.specs.Messages.{bookOf, lines, messageOne}
@@ -32,10 +30,9 @@ use Rattle.ends.specs.declared.Role.the-variants.{Initiator, Responder}
 use Rattle.ends.specs.declared.State.{State}
 use Rattle.ends.specs.declared.State.the-variants.{Idle, Sent, Half, Open, GivenUp}
 use Rattle.ends.specs.declared.Own.{Own}
-use Rattle.ends.specs.declared.End.{End}
 use Rattle.quick.specs.declared.StepAnswer.the-variants.{Refused}
 use Rattle.quick.proofs.Shapes.{Identities}
-use Rattle.exchange.specs.Exchange.{Party, Call, begin, deliver, tick, called, left, Heard, Allowed, stateOf, FullSize}
+use Rattle.exchange.specs.Exchange.{Party, Call, begin, deliver, tick, called, left, Heard, Allowed, stateOf, FullSize, Suits}
 
 -- ---- states
 
@@ -122,18 +119,21 @@ pub record Ask (one : Own) : Type 0 where
 abbrev pub offered : {one : Own} → Ask one → List ℕ
 offered {one} a = messageOne one (a .id) (a .first) (a .second)
 
-abbrev pub begins-with : (p : Party) → Ask (p .end .own) → List ℕ → After
-begins-with p a output =
-    sending (p .end) (p .sent) (p .got) output (offered a)
+abbrev pub begin-with : (p : Party) (id : ℕ) (first second output : List ℕ) → After
+begin-with p id first second output =
+    sending (p .end) (p .sent) (p .got) output (messageOne (p .end .own) id first second)
     (record {
       state = Sent;
       sends = 1;
-      id = a .id;
-      sentsize = length (offered a);
+      id = id;
+      sentsize = length (messageOne (p .end .own) id first second);
       gotsize = p .end .progress .gotsize;
       agreed = p .end .progress .agreed;
     })
     (p .got)
+
+abbrev pub begins-with : (p : Party) → Ask (p .end .own) → List ℕ → After
+begins-with p a output = begin-with p (a .id) (a .first) (a .second) output
 
 nil-of : (s : List ℕ) → length s ≡ 0 → s ≡ []
 nil-of [] h = refl
@@ -149,38 +149,36 @@ identities-right first second h =
     let z = both (eqb (identity 32 first) 0) (eqb (identity 32 second) 0) k in inr (eqb-true _ _ (z .0), eqb-true _ _ (z .1)))
 
 -- a begin that passes its checks
-pub record Begins (e : End) (id : ℕ) (first second : List ℕ) (tight : Bool) : Type 0 where
-  pub roomy : tight ≡ false
-  pub is-first : isInitiator (e .own .role) ≡ true
-  pub is-idle : e .progress .state ≡ Idle
+pub record Begins (p : Party) (id : ℕ) (first second output : List ℕ) : Type 0 where
+  pub room : FullSize p output
+  pub is-first : isInitiator (p .end .own .role) ≡ true
+  pub is-idle : stateOf p ≡ Idle
   pub some-id : 0 < id
   pub identities : Identities first second
-  pub some : 0 < lines (bookOf (e .own))
+  pub some : 0 < lines (bookOf (p .end .own))
 
-pub begin-passed : (e : End) (id : ℕ) (first second : List ℕ) (tight : Bool) → beginCode e id first second tight ≡ 0 → Begins e id first second tight
+begin-passed : (p : Party) (id : ℕ) (first second output : List ℕ) → beginCode (p .end) id first second (small (p .sent) (p .got) output) ≡ 0 → Begins p id first second output
 unfolding beginCode
-begin-passed e id first second tight h =
-    let room = passed tight 8192 _ (λ z. omega arith) h in
-    let up = passed (isGivenUp (e .progress .state)) 8196 _ (λ z. omega arith) (room .1) in
-    let first-idle = passed (not (isInitiator (e .own .role) && isIdle (e .progress .state))) 8195 _ (λ z. omega arith) (up .1) in
+begin-passed p id first second output h =
+    let room = passed (small (p .sent) (p .got) output) 8192 _ (λ z. omega arith) h in
+    let up = passed (isGivenUp (stateOf p)) 8196 _ (λ z. omega arith) (room .1) in
+    let first-idle = passed (not (isInitiator (p .end .own .role) && isIdle (stateOf p))) 8195 _ (λ z. omega arith) (up .1) in
     let ids = passed (eqb id 0) 9 _ (λ z. omega arith) (first-idle .1) in
     let them = passed (identitiesWrong first second) 18 _ (λ z. omega arith) (ids .1) in
-    let few = passed (eqb (lines (bookOf (e .own))) 0) 14 0 (λ z. omega arith) (them .1) in
-    let is = both (isInitiator (e .own .role)) (isIdle (e .progress .state)) (not-false _ (first-idle .0)) in
-    let nonzero = eqb-false id 0 (ids .0) in
-    let lined = eqb-false (lines (bookOf (e .own))) 0 (few .0) in
+    let few = passed (eqb (lines (bookOf (p .end .own))) 0) 14 0 (λ z. omega arith) (them .1) in
+    let is = both (isInitiator (p .end .own .role)) (isIdle (stateOf p)) (not-false _ (first-idle .0)) in
     record {
-      roomy = room .0;
+      room = roomy p output (room .0);
       is-first = is .0;
-      is-idle = idle-is (e .progress .state) (is .1);
-      some-id = omega (arith, nonzero);
+      is-idle = idle-is (stateOf p) (is .1);
+      some-id = omega (arith, eqb-false id 0 (ids .0));
       identities = identities-right first second (them .0);
-      some = omega (arith, lined);
+      some = omega (arith, eqb-false (lines (bookOf (p .end .own))) 0 (few .0));
     }
 
 -- what it asks with
-abbrev pub ask-of : (e : End) (id : ℕ) (first second : List ℕ) → {tight : Bool} → Begins e id first second tight → id < 4294967296 → Ask (e .own)
-ask-of e id first second b narrow = record { id = id; first = first; second = second; some = b .some; some-id = b .some-id; small-id = narrow; identities = b .identities }
+abbrev pub ask-of : {p : Party} {id : ℕ} {first second output : List ℕ} → Begins p id first second output → id < 4294967296 → Ask (p .end .own)
+ask-of {p} {id} {first} {second} b narrow = record { id = id; first = first; second = second; some = b .some; some-id = b .some-id; small-id = narrow; identities = b .identities }
 
 -- ---- what is written
 
@@ -201,6 +199,11 @@ in-front-again sent output size a b =
     let e : length (take (min size 2048) sent) ≡ min size 2048 = length-take-le (min size 2048) sent (omega arith) in
     ap (λ (n : ℕ). take n (paste output 0 (take (min size 2048) sent))) (sym e) ∙ in-front output (take (min size 2048) sent) (omega (arith, e)) b
 
+-- ---- the answer to message m, which the book suits
+
+abbrev pub answers-with : (p : Party) (m output : List ℕ) → Suits (p .end .own) m → After
+answers-with p m output s = halfway (p .end) m (p .sent) (p .got) output (s .number) (s .transforms) (setNumbered (s .number) (bodyAt 1 m))
+
 -- ---- every call at an end p, where `other` is what the other end wrote
 
 module _ (p : Party) (other : List (List ℕ)) where
@@ -218,23 +221,14 @@ module _ (p : Party) (other : List (List ℕ)) where
   pub data MoveR : After → Type 0 where
     refuses : (output : List ℕ) (number : ℕ) → MoveR (refusing (p .end) (p .sent) (p .got) output number)
     rests : (output : List ℕ) → MoveR (nothing (p .end) (p .sent) (p .got) output (p .end .progress))
-    answers : (m output : List ℕ) (number : ProposalNumber) (line : LineNumber) (transforms : Transforms) → FullSize p output → stateOf p ≡ Idle → Heard m other →
-        chooseFrom 32 (bookOf (p .end .own)) (bodyAt 1 m) ≡ choices.Chosen number line transforms →
-        MoveR (halfway (p .end) m (p .sent) (p .got) output number transforms (setNumbered number (bodyAt 1 m)))
+    answers : (m output : List ℕ) (s : Suits (p .end .own) m) → FullSize p output → stateOf p ≡ Idle → Heard m other → MoveR (answers-with p m output s)
     repeats : (output : List ℕ) → FullSize p output → stateOf p ≡ Half → MoveR (repeating (p .end) (p .sent) (p .got) output (p .end .progress))
     opens : (m output : List ℕ) → stateOf p ≡ Half → Heard m other → alike m (kept (p .end .progress .gotsize) (p .got)) ≡ false →
         MoveR (nothing (p .end) (p .sent) (p .got) output (withState Open (p .end .progress)))
     resends : (output : List ℕ) → FullSize p output → waits (stateOf p) ≡ true → MoveR (repeating (p .end) (p .sent) (p .got) output (oneMore (p .end .progress)))
     gives-up : (output : List ℕ) → waits (stateOf p) ≡ true → MoveR (nothing (p .end) (p .sent) (p .got) output (withState GivenUp (p .end .progress)))
 
--- a tick that passes its checks
-tick-passed : (state : State) (tight : Bool) → tickCode state tight ≡ 0 → (tight ≡ false) × (isGivenUp state ≡ false) × (isIdle state ≡ false)
-unfolding tickCode
-tick-passed state tight h =
-    let room = passed tight 8192 _ (λ z. omega arith) h in
-    let up = passed (isGivenUp state) 8196 _ (λ z. omega arith) (room .1) in
-    let idle = passed (isIdle state) 8195 0 (λ z. omega arith) (up .1) in
-    (room .0, up .0, idle .0)
+-- ---- a call is refused, or passes its checks
 
 waits-there : (s : State) → isGivenUp s ≡ false → isIdle s ≡ false → isOpen s ≡ false → waits s ≡ true
 unfolding isGivenUp isIdle isOpen
@@ -244,36 +238,43 @@ waits-there Half a b c = refl
 waits-there Open a b c = clash (sym c)
 waits-there GivenUp a b c = clash (sym a)
 
--- a delivery that passes its checks
-delivery-passed : (e : End) (holds : Bool) (m : List ℕ) (tight : Bool) → deliveryCode e holds m tight ≡ 0 → (tight ≡ false) × (holds ≡ true)
-unfolding deliveryCode
-delivery-passed e holds m tight h =
-    let room = passed tight 8192 _ (λ z. omega arith) h in
-    let hash = passed (not holds) 23 _ (λ z. omega arith) (room .1) in
-    (room .0, not-false holds (hash .0))
+module _ (p : Party) (output : List ℕ) (A : After → Type 0) (refused : (number : ℕ) → A (refusing (p .end) (p .sent) (p .got) output number)) where
+  pub by-begin : (id : ℕ) (first second : List ℕ) → (Begins p id first second output → A (begin-with p id first second output)) → A (begun (p .end) id first second (p .sent) (p .got) output)
+  unfolding begun
+  by-begin id first second passes =
+      by-test (eqb (beginCode (p .end) id first second (small (p .sent) (p .got) output)) 0)
+      (λ e. rw e (passes (begin-passed p id first second output (eqb-true _ _ e))))
+      (λ e. rw e (refused _))
+
+  pub by-tick : (isOpen (stateOf p) ≡ true → A (nothing (p .end) (p .sent) (p .got) output (p .end .progress))) →
+      (FullSize p output → waits (stateOf p) ≡ true → A (repeating (p .end) (p .sent) (p .got) output (oneMore (p .end .progress)))) →
+      (waits (stateOf p) ≡ true → A (nothing (p .end) (p .sent) (p .got) output (withState GivenUp (p .end .progress)))) → A (ticked (p .end) (p .sent) (p .got) output)
+  unfolding ticked tickCode
+  by-tick still again over =
+      by-test (not (eqb (tickCode (stateOf p) (small (p .sent) (p .got) output)) 0)) (λ e. rw e (refused _))
+      (λ e.
+      let room = passed (small (p .sent) (p .got) output) 8192 _ (λ z. omega arith) (eqb-true _ _ (not-false _ e)) in
+      let up = passed (isGivenUp (stateOf p)) 8196 _ (λ z. omega arith) (room .1) in
+      let idle = passed (isIdle (stateOf p)) 8195 0 (λ z. omega arith) (up .1) in
+      by-test (isOpen (stateOf p)) (λ f. rw (e, f) (still f))
+      (λ f.
+      let w = waits-there (stateOf p) (up .0) (idle .0) f in
+      by-test (ltb (p .end .progress .sends) 4) (λ g. rw (e, f, g) (again (roomy p output (room .0)) w)) (λ g. rw (e, f, g) (over w))))
+
+  pub by-delivery : (m : List ℕ) (holds : Bool) →
+      (FullSize p output → holds ≡ true →
+      A (if isInitiator (p .end .own .role) then atInitiator (p .end) m (p .sent) (p .got) output (stateOf p) else atResponder (p .end) m (p .sent) (p .got) output (stateOf p))) →
+      A (delivered (p .end) holds m (p .sent) (p .got) output)
+  unfolding delivered deliveryCode
+  by-delivery m holds taken =
+      by-test (not (eqb (deliveryCode (p .end) holds m (small (p .sent) (p .got) output)) 0)) (λ e. rw e (refused _))
+      (λ e.
+      let room = passed (small (p .sent) (p .got) output) 8192 _ (λ z. omega arith) (eqb-true _ _ (not-false _ e)) in
+      let hash = passed (not holds) 23 _ (λ z. omega arith) (room .1) in
+      rw e (taken (roomy p output (room .0)) (not-false holds (hash .0))))
 
 module _ (p : Party) (other : List (List ℕ)) where
   -- ---- at the initiator
-
-  begin-first : (id : ℕ) (first second output : List ℕ) → id < 4294967296 → MoveI p other (begun (p .end) id first second (p .sent) (p .got) output)
-  unfolding begun
-  begin-first id first second output narrow =
-      by-test (eqb (beginCode (p .end) id first second (small (p .sent) (p .got) output)) 0)
-      (λ e.
-      let b = begin-passed (p .end) id first second (small (p .sent) (p .got) output) (eqb-true _ _ e) in
-      rw e (MoveI.begins (ask-of (p .end) id first second b narrow) output (roomy p output (b .roomy)) (b .is-idle)))
-      (λ e. rw e (MoveI.refuses output _))
-
-  tick-first : (output : List ℕ) → MoveI p other (ticked (p .end) (p .sent) (p .got) output)
-  unfolding ticked
-  tick-first output =
-      by-test (not (eqb (tickCode (stateOf p) (small (p .sent) (p .got) output)) 0)) (λ e. rw e (MoveI.refuses output _))
-      (λ e.
-      let t = tick-passed (stateOf p) (small (p .sent) (p .got) output) (eqb-true _ _ (not-false _ e)) in
-      by-test (isOpen (stateOf p)) (λ f. rw (e, f) (MoveI.rests output))
-      (λ f.
-      let w = waits-there (stateOf p) (t .1) (t .2) f in
-      by-test (ltb (p .end .progress .sends) 4) (λ g. rw (e, f, g) (MoveI.resends output (roomy p output (t .0)) w)) (λ g. rw (e, f, g) (MoveI.gives-up output w))))
 
   at-first : (m output : List ℕ) → FullSize p output → Heard m other → (s : State) → stateOf p ≡ s → MoveI p other (atInitiator (p .end) m (p .sent) (p .got) output s)
   unfolding atInitiator
@@ -286,49 +287,22 @@ module _ (p : Party) (other : List (List ℕ)) where
   at-first m output room h Half q = MoveI.refuses output _
   at-first m output room h GivenUp q = MoveI.refuses output _
 
-  deliver-first : p .end .own .role ≡ Initiator → (m : List ℕ) (holds : Bool) (output : List ℕ) → (holds ≡ true → Heard m other) →
-      MoveI p other (delivered (p .end) holds m (p .sent) (p .got) output)
-  unfolding delivered
-  deliver-first role m holds output heard =
-      by-test (not (eqb (deliveryCode (p .end) holds m (small (p .sent) (p .got) output)) 0)) (λ e. rw e (MoveI.refuses output _))
-      (λ e.
-      let d = delivery-passed (p .end) holds m (small (p .sent) (p .got) output) (eqb-true _ _ (not-false _ e)) in
-      rw (e, first-is (p .end .own .role) role) (at-first m output (roomy p output (d .0)) (heard (d .1)) (stateOf p) refl))
-
   -- every call of the initiator is one of these
   pub moves-first : p .end .own .role ≡ Initiator → (c : Call) → Allowed other c → MoveI p other (called p c)
   unfolding called
-  moves-first role (begin id first second output) ok = begin-first id first second output ok
-  moves-first role (deliver m holds output) ok = deliver-first role m holds output ok
-  moves-first role (tick output) ok = tick-first output
+  moves-first role (begin id first second output) ok =
+      by-begin p output (MoveI p other) (MoveI.refuses output) id first second (λ b. MoveI.begins (ask-of b ok) output (b .room) (b .is-idle))
+  moves-first role (deliver m holds output) ok =
+      by-delivery p output (MoveI p other) (MoveI.refuses output) m holds (λ room h. rw (first-is (p .end .own .role) role) (at-first m output room (ok h) (stateOf p) refl))
+  moves-first role (tick output) ok = by-tick p output (MoveI p other) (MoveI.refuses output) (λ q. MoveI.rests output) (MoveI.resends output) (MoveI.gives-up output)
 
   -- ---- at the responder
-
-  begin-second : p .end .own .role ≡ Responder → (id : ℕ) (first second output : List ℕ) → MoveR p other (begun (p .end) id first second (p .sent) (p .got) output)
-  unfolding begun
-  begin-second role id first second output =
-      by-test (eqb (beginCode (p .end) id first second (small (p .sent) (p .got) output)) 0)
-      (λ e.
-      let b = begin-passed (p .end) id first second (small (p .sent) (p .got) output) (eqb-true _ _ e) in
-      clash (sym (second-is (p .end .own .role) role) ∙ b .is-first))
-      (λ e. rw e (MoveR.refuses output _))
-
-  tick-second : (output : List ℕ) → MoveR p other (ticked (p .end) (p .sent) (p .got) output)
-  unfolding ticked
-  tick-second output =
-      by-test (not (eqb (tickCode (stateOf p) (small (p .sent) (p .got) output)) 0)) (λ e. rw e (MoveR.refuses output _))
-      (λ e.
-      let t = tick-passed (stateOf p) (small (p .sent) (p .got) output) (eqb-true _ _ (not-false _ e)) in
-      by-test (isOpen (stateOf p)) (λ f. rw (e, f) (MoveR.rests output))
-      (λ f.
-      let w = waits-there (stateOf p) (t .1) (t .2) f in
-      by-test (ltb (p .end .progress .sends) 4) (λ g. rw (e, f, g) (MoveR.resends output (roomy p output (t .0)) w)) (λ g. rw (e, f, g) (MoveR.gives-up output w))))
 
   answers-it : (m output : List ℕ) → FullSize p output → stateOf p ≡ Idle → Heard m other → (c : Choice) → chooseFrom 32 (bookOf (p .end .own)) (bodyAt 1 m) ≡ c →
       MoveR p other (answered (p .end) m (p .sent) (p .got) output c)
   unfolding answered
   answers-it m output room q h (choices.Refused number) e = MoveR.refuses output number
-  answers-it m output room q h (choices.Chosen number line transforms) e = MoveR.answers m output number line transforms room q h e
+  answers-it m output room q h (choices.Chosen number line transforms) e = MoveR.answers m output (record { number = number; line = line; transforms = transforms; chosen = e }) room q h
 
   at-second : (m output : List ℕ) → FullSize p output → Heard m other → (s : State) → stateOf p ≡ s → MoveR p other (atResponder (p .end) m (p .sent) (p .got) output s)
   unfolding atResponder
@@ -342,21 +316,14 @@ module _ (p : Party) (other : List (List ℕ)) where
   at-second m output room h Sent q = MoveR.refuses output _
   at-second m output room h GivenUp q = MoveR.refuses output _
 
-  deliver-second : p .end .own .role ≡ Responder → (m : List ℕ) (holds : Bool) (output : List ℕ) → (holds ≡ true → Heard m other) →
-      MoveR p other (delivered (p .end) holds m (p .sent) (p .got) output)
-  unfolding delivered
-  deliver-second role m holds output heard =
-      by-test (not (eqb (deliveryCode (p .end) holds m (small (p .sent) (p .got) output)) 0)) (λ e. rw e (MoveR.refuses output _))
-      (λ e.
-      let d = delivery-passed (p .end) holds m (small (p .sent) (p .got) output) (eqb-true _ _ (not-false _ e)) in
-      rw (e, second-is (p .end .own .role) role) (at-second m output (roomy p output (d .0)) (heard (d .1)) (stateOf p) refl))
-
   -- every call of the responder is one of these
   pub moves-second : p .end .own .role ≡ Responder → (c : Call) → Allowed other c → MoveR p other (called p c)
   unfolding called
-  moves-second role (begin id first second output) ok = begin-second role id first second output
-  moves-second role (deliver m holds output) ok = deliver-second role m holds output ok
-  moves-second role (tick output) ok = tick-second output
+  moves-second role (begin id first second output) ok =
+      by-begin p output (MoveR p other) (MoveR.refuses output) id first second (λ b. clash (sym (second-is (p .end .own .role) role) ∙ b .is-first))
+  moves-second role (deliver m holds output) ok =
+      by-delivery p output (MoveR p other) (MoveR.refuses output) m holds (λ room h. rw (second-is (p .end .own .role) role) (at-second m output room (ok h) (stateOf p) refl))
+  moves-second role (tick output) ok = by-tick p output (MoveR p other) (MoveR.refuses output) (λ q. MoveR.rests output) (MoveR.resends output) (MoveR.gives-up output)
 
 -- no call changes what an end was given
 pub own-first : {p : Party} {other : List (List ℕ)} {x : After} → MoveI p other x → left x .end .own ≡ p .end .own
@@ -373,7 +340,7 @@ pub own-second : {p : Party} {other : List (List ℕ)} {x : After} → MoveR p o
 unfolding halfway
 own-second (MoveR.refuses output number) = refl
 own-second (MoveR.rests output) = refl
-own-second (MoveR.answers m output number line transforms room q h e) = refl
+own-second (MoveR.answers m output s room q h) = refl
 own-second (MoveR.repeats output room q) = refl
 own-second (MoveR.opens m output q h d) = refl
 own-second (MoveR.resends output room q) = refl
@@ -382,79 +349,44 @@ own-second (MoveR.gives-up output q) = refl
 -- ---- an open end
 
 module _ (p : Party) (q : stateOf p ≡ Open) where
-  open-begin : (id : ℕ) (first second output : List ℕ) → left (begun (p .end) id first second (p .sent) (p .got) output) ≡ p
-  unfolding begun
-  open-begin id first second output =
-      by-test (eqb (beginCode (p .end) id first second (small (p .sent) (p .got) output)) 0)
-      (λ e. let b = begin-passed (p .end) id first second (small (p .sent) (p .got) output) (eqb-true _ _ e) in let idle = b .is-idle in never (cc))
-      (λ e. rw e)
-
-  open-tick : (output : List ℕ) → left (ticked (p .end) (p .sent) (p .got) output) ≡ p
-  unfolding ticked isOpen
-  open-tick output =
-      by-test (not (eqb (tickCode (stateOf p) (small (p .sent) (p .got) output)) 0)) (λ e. rw e)
-      (λ e. by-test (isOpen (stateOf p)) (λ f. rw (e, f)) (λ f. never (cc)))
-
-  open-first : (m output : List ℕ) (s : State) → s ≡ Open → left (atInitiator (p .end) m (p .sent) (p .got) output s) ≡ p
+  open-first : (m output : List ℕ) → left (atInitiator (p .end) m (p .sent) (p .got) output (stateOf p)) ≡ p
   unfolding atInitiator
-  open-first m output Open e = by-test (alike m (kept (p .end .progress .gotsize) (p .got))) (λ f. rw f) (λ f. rw f)
-  open-first m output Sent e = never (cc)
-  open-first m output Idle e = never (cc)
-  open-first m output Half e = never (cc)
-  open-first m output GivenUp e = never (cc)
+  open-first m output = by-test (alike m (kept (p .end .progress .gotsize) (p .got))) (λ f. rw (q, f)) (λ f. rw (q, f))
 
-  open-second : (m output : List ℕ) (s : State) → s ≡ Open → left (atResponder (p .end) m (p .sent) (p .got) output s) ≡ p
+  open-second : (m output : List ℕ) → left (atResponder (p .end) m (p .sent) (p .got) output (stateOf p)) ≡ p
   unfolding atResponder
-  open-second m output Open e = by-test (alike m (kept (p .end .progress .gotsize) (p .got)) || eqb (shapeOf m) 1) (λ f. rw f) (λ f. rw f)
-  open-second m output Sent e = never (cc)
-  open-second m output Idle e = never (cc)
-  open-second m output Half e = never (cc)
-  open-second m output GivenUp e = never (cc)
-
-  open-delivery : (m : List ℕ) (holds : Bool) (output : List ℕ) → left (delivered (p .end) holds m (p .sent) (p .got) output) ≡ p
-  unfolding delivered
-  open-delivery m holds output =
-      by-test (not (eqb (deliveryCode (p .end) holds m (small (p .sent) (p .got) output)) 0)) (λ e. rw e)
-      (λ e.
-      by-test (isInitiator (p .end .own .role)) (λ f. rw (e, f) (open-first m output (stateOf p) q)) (λ f. rw (e, f) (open-second m output (stateOf p) q)))
+  open-second m output = by-test (alike m (kept (p .end .progress .gotsize) (p .got)) || eqb (shapeOf m) 1) (λ f. rw (q, f)) (λ f. rw (q, f))
 
   -- it is left as it was by every call, whatever the caller or the network does
   pub open-rests : (c : Call) → left (called p c) ≡ p
   unfolding called
-  open-rests (begin id first second output) = open-begin id first second output
-  open-rests (deliver m holds output) = open-delivery m holds output
-  open-rests (tick output) = open-tick output
+  open-rests (begin id first second output) = by-begin p output (λ x. left x ≡ p) (λ number. refl) id first second (λ b. let idle = b .is-idle in never (cc))
+  open-rests (deliver m holds output) =
+      by-delivery p output (λ x. left x ≡ p) (λ number. refl) m holds
+      (λ room h. by-test (isInitiator (p .end .own .role)) (λ f. rw f (open-first m output)) (λ f. rw f (open-second m output)))
+  open-rests (tick output) = by-tick p output (λ x. left x ≡ p) (λ number. refl) (λ o. refl) (λ room w. clash (cc)) (λ w. clash (cc))
 
 -- ---- a begin that isn't refused
 
-pub begin-open : (p : Party) (id : ℕ) (first second output : List ℕ) (narrow : id < 4294967296) →
-    ((number : ℕ) → called p (begin id first second output) .step .answer ≡ Refused number → ⊥) →
-    (b : Begins (p .end) id first second (small (p .sent) (p .got) output)) × FullSize p output × (called p (begin id first second output) ≡ begins-with p (ask-of (p .end) id first second b narrow) output)
-unfolding called begun
-begin-open p id first second output narrow free =
-    by-test (eqb (beginCode (p .end) id first second (small (p .sent) (p .got) output)) 0)
-    (λ e. let b = begin-passed (p .end) id first second (small (p .sent) (p .got) output) (eqb-true _ _ e) in (b, roomy p output (b .roomy), rw e))
-    (λ e. absurd (free (beginCode (p .end) id first second (small (p .sent) (p .got) output)) (rw e)))
+module _ (p : Party) (id : ℕ) (first second output : List ℕ) where
+  pub begin-open : (narrow : id < 4294967296) → ((number : ℕ) → called p (begin id first second output) .step .answer ≡ Refused number → ⊥) →
+      (b : Begins p id first second output) × (called p (begin id first second output) ≡ begins-with p (ask-of b narrow) output)
+  unfolding called
+  begin-open narrow free =
+      by-begin p output
+      (λ x. ((number : ℕ) → x .step .answer ≡ Refused number → ⊥) → (b : Begins p id first second output) × (x ≡ begins-with p (ask-of b narrow) output))
+      (λ number shut. absurd (shut number refl))
+      id first second
+      (λ b open-to. (b, refl))
+      free
 
--- at the responder it is refused
-pub begin-shut : (p : Party) (id : ℕ) (first second output : List ℕ) → p .end .own .role ≡ Responder → (number : ℕ) × (called p (begin id first second output) .step .answer ≡ Refused number)
-unfolding called begun
-begin-shut p id first second output role =
-    by-test (eqb (beginCode (p .end) id first second (small (p .sent) (p .got) output)) 0)
-    (λ e.
-    let b = begin-passed (p .end) id first second (small (p .sent) (p .got) output) (eqb-true _ _ e) in
-    clash (sym (second-is (p .end .own .role) role) ∙ b .is-first))
-    (λ e. (beginCode (p .end) id first second (small (p .sent) (p .got) output), rw e))
+  -- at the responder it is refused
+  pub begin-shut : p .end .own .role ≡ Responder → (number : ℕ) × (called p (begin id first second output) .step .answer ≡ Refused number)
+  unfolding called
+  begin-shut role =
+      by-begin p output (λ x. (number : ℕ) × (x .step .answer ≡ Refused number)) (λ number. (number, refl)) id first second (λ b. clash (sym (second-is (p .end .own .role) role) ∙ b .is-first))
 
 -- ---- a delivery that passes its checks, as an equation
-
-pub up-is : (s : State) → (s ≡ GivenUp → ⊥) → isGivenUp s ≡ false
-unfolding isGivenUp
-up-is Idle h = refl
-up-is Sent h = refl
-up-is Half h = refl
-up-is Open h = refl
-up-is GivenUp h = absurd (h refl)
 
 module _ (p : Party) (m output : List ℕ) (room : FullSize p output) (up : isGivenUp (stateOf p) ≡ false) (reads : readCode (p .end .own) (stateOf p) (p .end .progress .id) m (message m) ≡ 0) where
   code-passes : deliveryCode (p .end) true m (small (p .sent) (p .got) output) ≡ 0

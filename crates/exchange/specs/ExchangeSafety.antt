@@ -9,15 +9,12 @@ use Rattle.wire.specs.Wire.{paste}
 use Rattle.wire.proofs.Tests.{never, clash}
 use Rattle.wire.proofs.Laws.{length-paste}
 use Rattle.sets.specs.Parts.{setNumbered}
-use Rattle.fields.specs.declared.ProposalNumber.{ProposalNumber}
-use Rattle.policy.specs.Choice.{bodyAt, chooseFrom}
-use Rattle.policy.specs.declared.LineNumber.{LineNumber}
-use Rattle.policy.specs.declared.Transforms.{Transforms}
-use Rattle.policy.specs.declared.Choice.the-variants.{Chosen}
-use Rattle.writing.specs.Messages.{bookOf, nonceOf, messageThree}
-use Rattle.shapes.specs.Shapes.{alike, nonceIn, nonce}
-use Rattle.checks.specs.Checks.{spisOf, ownSpis, agreedTwo}
-use Rattle.quick.specs.Ends.{After, kept, nothing, repeating, sending, withState, oneMore, opened, halfway}
+use Rattle.policy.specs.Choice.{bodyAt}
+use Rattle.reply.specs.Reply.{setReply}
+use Rattle.writing.specs.Messages.{nonceOf, offerOf, messageThree}
+use Rattle.shapes.specs.Shapes.{alike, shapeOf, nonceIn, nonce}
+use Rattle.checks.specs.Checks.{takenCode, spisOf, ownSpis, agreedTwo}
+use Rattle.quick.specs.Ends.{After, kept, repeating, sending, withState, oneMore, opened, halfway}
 use Rattle.shapes.proofs.Laws.{alike-same, alike-sym, alike-trans}
 use Rattle.ends.specs.declared.Role.the-variants.{Initiator, Responder}
 use Rattle.ends.specs.declared.State.{State}
@@ -25,12 +22,12 @@ use Rattle.ends.specs.declared.State.the-variants.{Idle, Sent, Half, Open, Give
 use Rattle.ends.specs.declared.Own.{Own}
 use Rattle.ends.specs.declared.Agreed.{Agreed}
 use Rattle.ends.specs.declared.Progress.{Progress}
-use Rattle.quick.proofs.Shapes.{Fit, Framed, Answered, replyTo}
+use Rattle.quick.proofs.Shapes.{Fit, Longer, Third, Answered, replyTo}
 use Rattle.quick.proofs.MessageLaws.{third-reads}
-use Rattle.quick.proofs.TakenLaws.{one-reads, two-reads, two-agreed}
-use Rattle.exchange.specs.Exchange.{Party, left, logged, World, Event, atFirst, atSecond, step, Heard, here, there, Fair, Run, rest, goes, Fresh, stateOf, sentOf, gotOf, agreedOf, Same, FullSize, Only, one, more, Then, turn, next}
+use Rattle.quick.proofs.TakenLaws.{one-reads, two-reads, two-agreed, two-taken}
+use Rattle.exchange.specs.Exchange.{Party, left, logged, World, Event, atFirst, atSecond, step, Heard, here, there, Fair, Run, rest, goes, Fresh, stateOf, sentOf, gotOf, agreedOf, Same, FullSize, Suits, Only, one, more, Then, turn, next}
 use Rattle.exchange.specs.ExchangeFresh.{fresh-fit}
-use Rattle.exchange.specs.ExchangeMoves.{asking, answering, past, answering-past, Ask, offered, begins-with, in-front, keeps-it, in-front-again, MoveI, MoveR, moves-first, moves-second, own-first, own-second}
+use Rattle.exchange.specs.ExchangeMoves.{asking, answering, past, answering-past, Ask, offered, begins-with, answers-with, in-front, keeps-it, in-front-again, MoveI, MoveR, moves-first, moves-second, own-first, own-second}
 
 -- ---- what was written
 
@@ -52,12 +49,28 @@ module _ (k : List ℕ) where
 
 -- ---- what each end keeps
 
--- p has kept m as what it sent, in an exchange with this message ID; its buffers are full size
-pub record Keeps (p : Party) (id : ℕ) (m : List ℕ) : Type 0 where
+-- an end apart from its state and its sends, which nothing that it keeps hangs on
+abbrev pub calm : Party → Party
+calm p =
+    let progress : Progress = p .end .progress in
+    record {
+      end = record {
+        own = p .end .own;
+        progress = record { state = Idle; sends = 0; id = progress .id; sentsize = progress .sentsize; gotsize = progress .gotsize; agreed = progress .agreed };
+      };
+      sent = p .sent;
+      got = p .got;
+    }
+
+pub record KeepsCalm (p : Party) (id : ℕ) (m : List ℕ) : Type 0 where
   pub sent-room : 2048 ≤ length (p .sent)
   pub got-room : 2048 ≤ length (p .got)
   pub its-sent : sentOf p ≡ m
   pub its-id : p .end .progress .id ≡ id
+
+-- p has kept m as what it sent, in an exchange with this message ID; its buffers are full size
+abbrev pub Keeps : Party → ℕ → List ℕ → Type 0
+Keeps p id m = KeepsCalm (calm p) id m
 
 -- the two ends of one quick mode
 pub record Pair (one two : Own) : Type 0 where
@@ -68,25 +81,28 @@ pub record Pair (one two : Own) : Type 0 where
   pub icookies : one .icookie ≡ two .icookie
   pub rcookies : one .rcookie ≡ two .rcookie
 
--- what the responder has agreed to with its answer
-abbrev pub agreement : Own → List ℕ → ProposalNumber → Transforms → Agreed
-agreement two g number transforms = record {
-  set = number;
-  transforms = transforms;
-  initiator = spisOf (setNumbered number (bodyAt 1 g));
-  responder = ownSpis (two .ah) (two .esp) (setNumbered number (bodyAt 1 g));
+-- the answer to message g, and what the responder has agreed to with it
+abbrev pub replyOf : (two : Own) (g : List ℕ) → Suits two g → List ℕ
+replyOf two g s = replyTo two g (s .number) (s .transforms)
+
+abbrev pub agreement : (two : Own) (g : List ℕ) → Suits two g → Agreed
+agreement two g s = record {
+  set = s .number;
+  transforms = s .transforms;
+  initiator = spisOf (setNumbered (s .number) (bodyAt 1 g));
+  responder = ownSpis (two .ah) (two .esp) (setNumbered (s .number) (bodyAt 1 g));
 }
 
--- the responder r has taken the offer of a as it got it, and all that it wrote, log, is its one reply
-pub record Replied {own : Own} (a : Ask own) (r : Party) (log : List (List ℕ)) : Type 0 where
-  pub number : ProposalNumber
-  pub line : LineNumber
-  pub transforms : Transforms
+pub record RepliedCalm {own : Own} (a : Ask own) (r : Party) (log : List (List ℕ)) : Type 0 where
+  pub suits : Suits (r .end .own) (gotOf r)
   pub from : alike (gotOf r) (offered a) ≡ true
-  pub chosen : chooseFrom 32 (bookOf (r .end .own)) (bodyAt 1 (gotOf r)) ≡ Chosen number line transforms
-  pub keeps : Keeps r (a .id) (replyTo (r .end .own) (gotOf r) number transforms)
-  pub its-agreed : agreedOf r ≡ agreement (r .end .own) (gotOf r) number transforms
-  pub only : Only (replyTo (r .end .own) (gotOf r) number transforms) log
+  pub keeps : Keeps r (a .id) (replyOf (r .end .own) (gotOf r) suits)
+  pub its-agreed : agreedOf r ≡ agreement (r .end .own) (gotOf r) suits
+  pub only : Only (replyOf (r .end .own) (gotOf r) suits) log
+
+-- the responder r has taken the offer of a as it got it, and all that it wrote, log, is its one reply
+abbrev pub Replied : {own : Own} → Ask own → Party → List (List ℕ) → Type 0
+Replied a r log = RepliedCalm a (calm r) log
 
 -- ---- the four stages of an exchange, of the two ends and what each has written
 
@@ -101,57 +117,16 @@ pub record Inv (i r : Party) (fi fr : List (List ℕ)) : Type 0 where
   pub pair : Pair (i .end .own) (r .end .own)
   pub stage : Stage i r fi fr
 
--- an end that sends its kept message again, or gives up, keeps what it has
-module _ (p : Party) (id : ℕ) (m : List ℕ) (k : Keeps p id m) (output : List ℕ) where
-  pub keeps-more : Keeps (left (repeating (p .end) (p .sent) (p .got) output (oneMore (p .end .progress)))) id m
-  unfolding oneMore
-  keeps-more = record { sent-room = k .sent-room; got-room = k .got-room; its-sent = k .its-sent; its-id = k .its-id }
+-- an end that sends its kept message again writes what it keeps
+pub again : (p : Party) (id : ℕ) (m output : List ℕ) → Keeps p id m → FullSize p output → (progress : Progress) (log : List (List ℕ)) →
+    logged (repeating (p .end) (p .sent) (p .got) output progress) log ≡ m ∷ log
+again p id m output k room progress log = rw (in-front-again (p .sent) output (p .end .progress .sentsize) (room .in-sent) (room .in-output), k .its-sent)
 
-  pub keeps-state : (s : State) → Keeps (left (nothing (p .end) (p .sent) (p .got) output (withState s (p .end .progress)))) id m
-  unfolding withState
-  keeps-state s = record { sent-room = k .sent-room; got-room = k .got-room; its-sent = k .its-sent; its-id = k .its-id }
-
-  -- and what it writes is what it keeps
-  pub again : FullSize p output → (progress : Progress) → (log : List (List ℕ)) → logged (repeating (p .end) (p .sent) (p .got) output progress) log ≡ m ∷ log
-  again room progress log = rw (in-front-again (p .sent) output (p .end .progress .sentsize) (room .in-sent) (room .in-output), k .its-sent)
-
-module _ {own : Own} (a : Ask own) (r : Party) (log : List (List ℕ)) (R : Replied a r log) (output : List ℕ) where
-  abbrev reply : List ℕ
-  reply = replyTo (r .end .own) (gotOf r) (R .number) (R .transforms)
-
-  replied-again : FullSize r output → Replied a r (logged (repeating (r .end) (r .sent) (r .got) output (r .end .progress)) log)
-  replied-again room =
-      rw (again r (a .id) reply (R .keeps) output room (r .end .progress) log)
-      (record { number = R .number; line = R .line; transforms = R .transforms; from = R .from; chosen = R .chosen; keeps = R .keeps; its-agreed = R .its-agreed; only = more (R .only) })
-
-  replied-more : FullSize r output →
-      Replied a (left (repeating (r .end) (r .sent) (r .got) output (oneMore (r .end .progress)))) (logged (repeating (r .end) (r .sent) (r .got) output (oneMore (r .end .progress))) log)
-  unfolding oneMore
-  replied-more room =
-      rw (again r (a .id) reply (R .keeps) output room (oneMore (r .end .progress)) log)
-      (record {
-        number = R .number;
-        line = R .line;
-        transforms = R .transforms;
-        from = R .from;
-        chosen = R .chosen;
-        keeps = keeps-more r (a .id) reply (R .keeps) output;
-        its-agreed = R .its-agreed;
-        only = more (R .only);
-      })
-
-  replied-state : (s : State) → Replied a (left (nothing (r .end) (r .sent) (r .got) output (withState s (r .end .progress)))) log
-  unfolding withState
-  replied-state s = record {
-    number = R .number;
-    line = R .line;
-    transforms = R .transforms;
-    from = R .from;
-    chosen = R .chosen;
-    keeps = keeps-state r (a .id) reply (R .keeps) output s;
-    its-agreed = R .its-agreed;
-    only = R .only;
-  }
+replied-again : {own : Own} (a : Ask own) (r : Party) (log : List (List ℕ)) (output : List ℕ) → Replied a r log → FullSize r output → (progress : Progress) →
+    Replied a r (logged (repeating (r .end) (r .sent) (r .got) output progress) log)
+replied-again a r log output R room progress =
+    rw (again r (a .id) (replyOf (r .end .own) (gotOf r) (R .suits)) output (R .keeps) room progress log)
+    (record { suits = R .suits; from = R .from; keeps = R .keeps; its-agreed = R .its-agreed; only = more (R .only) })
 
 -- an end that sends m first: that is written, and kept
 module _ (p : Party) (m : List ℕ) (progress : Progress) (taken output : List ℕ) (short : length m ≤ 2048) (room : FullSize p output) where
@@ -160,123 +135,110 @@ module _ (p : Party) (m : List ℕ) (progress : Progress) (taken output : List �
 
   pub keeps-sent : (id : ℕ) → progress .sentsize ≡ length m → progress .id ≡ id → 2048 ≤ length taken → Keeps (left (sending (p .end) (p .sent) (p .got) output m progress taken)) id m
   keeps-sent id size eid got-room = record {
-    sent-room = subst (λ (n : ℕ). 2048 ≤ n) (sym (length-paste (p .sent) 0 m)) (room .in-sent);
+    sent-room = rw length-paste (room .in-sent);
     got-room = got-room;
     its-sent = ap (λ (n : ℕ). kept n (paste (p .sent) 0 m)) size ∙ keeps-it (p .sent) m short (room .in-sent);
     its-id = eid;
   }
 
--- what the responder holds whose kept message is g
-replied-with : {own : Own} (a : Ask own) (r : Party) (log : List (List ℕ)) (g : List ℕ) (number : ProposalNumber) (line : LineNumber) (transforms : Transforms) → gotOf r ≡ g →
-    alike g (offered a) ≡ true → chooseFrom 32 (bookOf (r .end .own)) (bodyAt 1 g) ≡ Chosen number line transforms → Keeps r (a .id) (replyTo (r .end .own) g number transforms) →
-    agreedOf r ≡ agreement (r .end .own) g number transforms → Only (replyTo (r .end .own) g number transforms) log → Replied a r log
-replied-with a r log g number line transforms e from chosen keeps its-agreed only = record {
-  number = number;
-  line = line;
-  transforms = transforms;
-  from = subst (λ (k : List ℕ). alike k (offered a) ≡ true) (sym e) from;
-  chosen = subst (λ (k : List ℕ). chooseFrom 32 (bookOf (r .end .own)) (bodyAt 1 k) ≡ Chosen number line transforms) (sym e) chosen;
-  keeps = subst (λ (k : List ℕ). Keeps r (a .id) (replyTo (r .end .own) k number transforms)) (sym e) keeps;
-  its-agreed = subst (λ (k : List ℕ). agreedOf r ≡ agreement (r .end .own) k number transforms) (sym e) its-agreed;
-  only = subst (λ (k : List ℕ). Only (replyTo (r .end .own) k number transforms) log) (sym e) only;
-}
+-- ---- the three messages as they are read, whatever their hash bytes
 
-pub answered-by : {one two : Own} → Pair one two → (a : Ask one) (g : List ℕ) (number : ProposalNumber) (line : LineNumber) (transforms : Transforms) →
-    alike g (offered a) ≡ true → chooseFrom 32 (bookOf two) (bodyAt 1 g) ≡ Chosen number line transforms → Answered one two (a .id) (a .first) (a .second) g number line transforms
-answered-by pair a g number line transforms from chosen = record {
-  fit-one = pair .fit-one;
-  some = a .some;
-  some-id = a .some-id;
-  small-id = a .small-id;
-  identities = a .identities;
-  fit-two = pair .fit-two;
-  from = from;
-  chosen = chosen;
-}
-
--- message 1 as it arrives, and as it was written
 module _ {own : Own} (fit : Fit own) (a : Ask own) where
-  pub one-read : (g : List ℕ) → alike g (offered a) ≡ true → Framed own (a .id) g
-  one-read g s = one-reads own fit (a .some) (a .id) (a .some-id) (a .small-id) (a .first) (a .second) (a .identities) g s .framed
+  pub one-read : (m : List ℕ) → alike m (offered a) ≡ true → Longer own (a .id) (offerOf own) (a .first) (a .second) m
+  one-read m s = one-reads own fit (a .some) (a .id) (a .some-id) (a .small-id) (a .first) (a .second) (a .identities) m s
 
   pub one-short : length (offered a) ≤ 2048
-  one-short = one-read (offered a) (alike-same (offered a)) .short
+  one-short = one-read (offered a) (alike-same (offered a)) .framed .short
+
+  pub three-read : (m : List ℕ) → alike m (messageThree own (a .id)) ≡ true → Third own (a .id) m
+  three-read m s = third-reads own (a .id) fit (a .some-id) (a .small-id) m s
 
   pub three-short : length (messageThree own (a .id)) ≤ 2048
-  three-short = third-reads own (a .id) fit (a .some-id) (a .small-id) (messageThree own (a .id)) (alike-same (messageThree own (a .id))) .framed .short
+  three-short = three-read (messageThree own (a .id)) (alike-same (messageThree own (a .id))) .framed .short
+
+module _ {one two : Own} (pair : Pair one two) (a : Ask one) (g : List ℕ) (from : alike g (offered a) ≡ true) (s : Suits two g) where
+  its-answer : Answered one two (a .id) (a .first) (a .second) g (s .number) (s .line) (s .transforms)
+  its-answer = record {
+    fit-one = pair .fit-one;
+    some = a .some;
+    some-id = a .some-id;
+    small-id = a .small-id;
+    identities = a .identities;
+    fit-two = pair .fit-two;
+    from = from;
+    chosen = s .chosen;
+  }
+
+  module _ (m : List ℕ) (is : alike m (replyOf two g s) ≡ true) where
+    pub two-read : Longer two (a .id) (setReply (two .ah) (two .esp) (s .transforms) (setNumbered (s .number) (bodyAt 1 g))) (a .first) (a .second) m
+    two-read = two-reads one two (a .id) (a .first) (a .second) g (s .number) (s .line) (s .transforms) its-answer m is
+
+    pub two-agrees : agreedTwo (offered a) m ≡ agreement two g s
+    two-agrees = two-agreed one two (a .id) (a .first) (a .second) g (s .number) (s .line) (s .transforms) its-answer m is
+
+    pub two-takes : takenCode (shapeOf m) (offered a) m ≡ 0
+    two-takes = two-taken one two (a .id) (a .first) (a .second) g (s .number) (s .line) (s .transforms) its-answer m is
+
+  pub two-short : length (replyOf two g s) ≤ 2048
+  two-short = two-read (replyOf two g s) (alike-same (replyOf two g s)) .framed .short
 
 -- the initiator begins
 begins-asked : (i r : Party) (fi fr : List (List ℕ)) → Pair (i .end .own) (r .end .own) → (a : Ask (i .end .own)) (output : List ℕ) → FullSize i output → fi ≡ [] → stateOf r ≡ Idle → fr ≡ [] →
     Stage (left (begins-with i a output)) r (logged (begins-with i a output) fi) fr
 begins-asked i r fi fr pair a output room none er nr =
     let short = one-short (pair .fit-one) a in
+    let progress : Progress = begins-with i a output .step .end .progress in
     asked a refl
-    (keeps-sent i (offered a) (begins-with i a output .step .end .progress) (i .got) output short room (a .id) refl refl (room .in-got))
-    (subst (λ (log : List (List ℕ)). Only (offered a) log)
-    (sym (sends-it i (offered a) (begins-with i a output .step .end .progress) (i .got) output short room fi ∙ ap (λ (log : List (List ℕ)). offered a ∷ log) none))
-    one)
+    (keeps-sent i (offered a) progress (i .got) output short room (a .id) refl refl (room .in-got))
+    (rw (sends-it i (offered a) progress (i .got) output short room fi, none) one)
     er
     nr
 
 -- message 2 arrives at the initiator: it opens, with the values that the responder has
-module _ (i r : Party) (fi fr : List (List ℕ)) (pair : Pair (i .end .own) (r .end .own)) (a : Ask (i .end .own)) (R : Replied a r fr) where
-  abbrev its-reply : List ℕ
-  its-reply = replyTo (r .end .own) (gotOf r) (R .number) (R .transforms)
+opens-done : (i r : Party) (fi fr : List (List ℕ)) → Pair (i .end .own) (r .end .own) → (a : Ask (i .end .own)) (R : Replied a r fr) → Keeps i (a .id) (offered a) → Only (offered a) fi → past (stateOf r) ≡ true →
+    (m output : List ℕ) → FullSize i output → Heard m fr → Stage (left (opened (i .end) m (i .sent) (i .got) output)) r (logged (opened (i .end) m (i .sent) (i .got) output) fi) fr
+unfolding opened
+opens-done i r fi fr pair a R k o er m output room h =
+    let s : alike m (replyOf (r .end .own) (gotOf r) (R .suits)) ≡ true = only-heard m (R .only) h in
+    let three : messageThree (i .end .own) (i .end .progress .id) ≡ messageThree (i .end .own) (a .id) = ap (messageThree (i .end .own)) (k .its-id) in
+    let short : length (messageThree (i .end .own) (i .end .progress .id)) ≤ 2048 = rw three (three-short (pair .fit-one) a) in
+    let progress : Progress = opened (i .end) m (i .sent) (i .got) output .step .end .progress in
+    let keeps-third = keeps-sent i (messageThree (i .end .own) (i .end .progress .id)) progress (paste (i .got) 0 m) output short room (a .id) refl (k .its-id) (rw length-paste (room .in-got)) in
+    let log = sends-it i (messageThree (i .end .own) (i .end .progress .id)) progress (paste (i .got) 0 m) output short room fi in
+    let got = keeps-it (i .got) m (two-read pair a (gotOf r) (R .from) (R .suits) m s .framed .short) (room .in-got) in
+    done a refl
+    (subst (λ (n : List ℕ). Keeps (left (opened (i .end) m (i .sent) (i .got) output)) (a .id) n) three keeps-third)
+    (rw (log, three) (turn o))
+    R
+    er
+    (ap (λ (n : List ℕ). agreedTwo n m) (k .its-sent) ∙ two-agrees pair a (gotOf r) (R .from) (R .suits) m s ∙ sym (R .its-agreed))
+    (rw (got, R .keeps .its-sent) s)
 
-  pub its-answer : Answered (i .end .own) (r .end .own) (a .id) (a .first) (a .second) (gotOf r) (R .number) (R .line) (R .transforms)
-  its-answer = answered-by pair a (gotOf r) (R .number) (R .line) (R .transforms) (R .from) (R .chosen)
-
-  -- the reply as it is read, whatever the hash bytes
-  pub two-read : (n : List ℕ) → alike n its-reply ≡ true → Framed (r .end .own) (a .id) n × (nonceIn n ≡ nonceOf (r .end .own))
-  two-read n s =
-      let l = two-reads (i .end .own) (r .end .own) (a .id) (a .first) (a .second) (gotOf r) (R .number) (R .line) (R .transforms) its-answer n s in
-      (l .framed, l .nonce)
-
-  opens-done : Keeps i (a .id) (offered a) → Only (offered a) fi → past (stateOf r) ≡ true → (m output : List ℕ) → FullSize i output → Heard m fr →
-      Stage (left (opened (i .end) m (i .sent) (i .got) output)) r (logged (opened (i .end) m (i .sent) (i .got) output) fi) fr
-  unfolding opened
-  opens-done k o er m output room h =
-      let s : alike m its-reply ≡ true = only-heard m (R .only) h in
-      let three : messageThree (i .end .own) (i .end .progress .id) ≡ messageThree (i .end .own) (a .id) = ap (messageThree (i .end .own)) (k .its-id) in
-      let short : length (messageThree (i .end .own) (i .end .progress .id)) ≤ 2048 = subst (λ (n : List ℕ). length n ≤ 2048) (sym three) (three-short (pair .fit-one) a) in
-      let progress : Progress = opened (i .end) m (i .sent) (i .got) output .step .end .progress in
-      let keeps-third = keeps-sent i (messageThree (i .end .own) (i .end .progress .id)) progress (paste (i .got) 0 m) output short room (a .id) refl (k .its-id)
-      (subst (λ (n : ℕ). 2048 ≤ n) (sym (length-paste (i .got) 0 m)) (room .in-got)) in
-      let log = sends-it i (messageThree (i .end .own) (i .end .progress .id)) progress (paste (i .got) 0 m) output short room fi in
-      done a refl
-      (subst (λ (n : List ℕ). Keeps (left (opened (i .end) m (i .sent) (i .got) output)) (a .id) n) three keeps-third)
-      (subst (λ (l : List (List ℕ)). Then (offered a) (messageThree (i .end .own) (a .id)) l) (sym (log ∙ ap (λ (n : List ℕ). n ∷ fi) three)) (turn o))
-      R
-      er
-      (ap (λ (n : List ℕ). agreedTwo n m) (k .its-sent)
-      ∙ two-agreed (i .end .own) (r .end .own) (a .id) (a .first) (a .second) (gotOf r) (R .number) (R .line) (R .transforms) its-answer m s ∙ sym (R .its-agreed))
-      (subst (λ (n : List ℕ). alike n (sentOf r) ≡ true) (sym (keeps-it (i .got) m (two-read m s .0 .short) (room .in-got)))
-      (subst (λ (n : List ℕ). alike m n ≡ true) (sym (R .keeps .its-sent)) s))
+-- what the responder holds whose kept message is g
+replied-with : {own : Own} (a : Ask own) (r : Party) (log : List (List ℕ)) (g : List ℕ) → gotOf r ≡ g → (s : Suits (r .end .own) g) → alike g (offered a) ≡ true →
+    Keeps r (a .id) (replyOf (r .end .own) g s) → agreedOf r ≡ agreement (r .end .own) g s → Only (replyOf (r .end .own) g s) log → Replied a r log
+replied-with a r log g e =
+    subst
+    (λ (k : List ℕ). (s : Suits (r .end .own) k) → alike k (offered a) ≡ true → Keeps r (a .id) (replyOf (r .end .own) k s) → agreedOf r ≡ agreement (r .end .own) k s →
+    Only (replyOf (r .end .own) k s) log → Replied a r log)
+    e
+    (λ s from keeps its-agreed only. record { suits = s; from = from; keeps = keeps; its-agreed = its-agreed; only = only })
 
 -- message 1 arrives at the responder: it answers
 answers-half : (i r : Party) (fi fr : List (List ℕ)) → Pair (i .end .own) (r .end .own) → (a : Ask (i .end .own)) → asking (stateOf i) ≡ true → Keeps i (a .id) (offered a) → Only (offered a) fi → fr ≡ [] →
-    (m output : List ℕ) (number : ProposalNumber) (line : LineNumber) (transforms : Transforms) → FullSize r output → Heard m fi →
-    chooseFrom 32 (bookOf (r .end .own)) (bodyAt 1 m) ≡ Chosen number line transforms →
-    Stage i (left (halfway (r .end) m (r .sent) (r .got) output number transforms (setNumbered number (bodyAt 1 m)))) fi
-    (logged (halfway (r .end) m (r .sent) (r .got) output number transforms (setNumbered number (bodyAt 1 m))) fr)
+    (m output : List ℕ) (s : Suits (r .end .own) m) → FullSize r output → Heard m fi → Stage i (left (answers-with r m output s)) fi (logged (answers-with r m output s) fr)
 unfolding halfway
-answers-half i r fi fr pair a ei k o none m output number line transforms room h chosen =
-    let s : alike m (offered a) ≡ true = only-heard m o h in
-    let framed = one-read (pair .fit-one) a m s in
-    let its = answered-by pair a m number line transforms s chosen in
-    let reply : List ℕ = replyTo (r .end .own) m number transforms in
-    let short : length reply ≤ 2048 =
-    two-reads (i .end .own) (r .end .own) (a .id) (a .first) (a .second) m number line transforms its reply (alike-same reply) .framed .short in
-    let progress : Progress = halfway (r .end) m (r .sent) (r .got) output number transforms (setNumbered number (bodyAt 1 m)) .step .end .progress in
+answers-half i r fi fr pair a ei k o none m output s room h =
+    let from : alike m (offered a) ≡ true = only-heard m o h in
+    let framed = one-read (pair .fit-one) a m from .framed in
+    let reply : List ℕ = replyOf (r .end .own) m s in
+    let short = two-short pair a m from s in
+    let progress : Progress = answers-with r m output s .step .end .progress in
+    let got = keeps-it (r .got) m (framed .short) (room .in-got) in
     let log = sends-it r reply progress (paste (r .got) 0 m) output short room fr in
+    let keeps-reply = keeps-sent r reply progress (paste (r .got) 0 m) output short room (a .id) refl (framed .its-id) (rw length-paste (room .in-got)) in
     half a ei k o
-    (replied-with a (left (halfway (r .end) m (r .sent) (r .got) output number transforms (setNumbered number (bodyAt 1 m)))) _ m number line transforms
-    (keeps-it (r .got) m (framed .short) (room .in-got))
-    s
-    chosen
-    (keeps-sent r reply progress (paste (r .got) 0 m) output short room (a .id) refl (framed .its-id) (subst (λ (n : ℕ). 2048 ≤ n) (sym (length-paste (r .got) 0 m)) (room .in-got)))
-    refl
-    (subst (λ (l : List (List ℕ)). Only reply l) (sym (log ∙ ap (λ (l : List (List ℕ)). reply ∷ l) none)) one))
+    (replied-with a (left (answers-with r m output s)) _ m got s from keeps-reply refl (rw (log, none) one))
     refl
 
 -- ---- every call leads from a stage to a stage
@@ -295,18 +257,18 @@ module _ (i r : Party) (fi fr : List (List ℕ)) (pair : Pair (i .end .own) (r .
   stage-first (asked a ei k o er nr) (MoveI.opens m output room q h) = clash (none-heard m nr h)
   stage-first (asked a ei k o er nr) (MoveI.repeats output room q) = clash (cc)
   stage-first (asked a ei k o er nr) (MoveI.resends output room q) =
-      asked a ei (keeps-more i (a .id) (offered a) k output) (rw (again i (a .id) (offered a) k output room (oneMore (i .end .progress)) fi) (more o)) er nr
-  stage-first (asked a ei k o er nr) (MoveI.gives-up output q) = asked a refl (keeps-state i (a .id) (offered a) k output GivenUp) o er nr
+      asked a ei k (rw (again i (a .id) (offered a) output k room (oneMore (i .end .progress)) fi) (more o)) er nr
+  stage-first (asked a ei k o er nr) (MoveI.gives-up output q) = asked a refl k o er nr
   stage-first (half a ei k o R er) (MoveI.begins b output room q) = clash (cc)
   stage-first (half a ei k o R er) (MoveI.opens m output room q h) = opens-done i r fi fr pair a R k o (answering-past (stateOf r) er) m output room h
   stage-first (half a ei k o R er) (MoveI.repeats output room q) = clash (cc)
   stage-first (half a ei k o R er) (MoveI.resends output room q) =
-      half a ei (keeps-more i (a .id) (offered a) k output) (rw (again i (a .id) (offered a) k output room (oneMore (i .end .progress)) fi) (more o)) R er
-  stage-first (half a ei k o R er) (MoveI.gives-up output q) = half a refl (keeps-state i (a .id) (offered a) k output GivenUp) o R er
+      half a ei k (rw (again i (a .id) (offered a) output k room (oneMore (i .end .progress)) fi) (more o)) R er
+  stage-first (half a ei k o R er) (MoveI.gives-up output q) = half a refl k o R er
   stage-first (done a ei k o R er ev eg) (MoveI.begins b output room q) = never (cc)
   stage-first (done a ei k o R er ev eg) (MoveI.opens m output room q h) = never (cc)
   stage-first (done a ei k o R er ev eg) (MoveI.repeats output room q) =
-      done a ei k (rw (again i (a .id) (messageThree (i .end .own) (a .id)) k output room (i .end .progress) fi) (next o)) R er ev eg
+      done a ei k (rw (again i (a .id) (messageThree (i .end .own) (a .id)) output k room (i .end .progress) fi) (next o)) R er ev eg
   stage-first (done a ei k o R er ev eg) (MoveI.resends output room q) = clash (cc)
   stage-first (done a ei k o R er ev eg) (MoveI.gives-up output q) = clash (cc)
 
@@ -314,27 +276,27 @@ module _ (i r : Party) (fi fr : List (List ℕ)) (pair : Pair (i .end .own) (r .
   unfolding oneMore withState
   stage-second k (MoveR.refuses output number) = k
   stage-second k (MoveR.rests output) = k
-  stage-second (new ei er ni nr) (MoveR.answers m output number line transforms room q h e) = clash (none-heard m ni h)
+  stage-second (new ei er ni nr) (MoveR.answers m output s room q h) = clash (none-heard m ni h)
   stage-second (new ei er ni nr) (MoveR.repeats output room q) = never (cc)
   stage-second (new ei er ni nr) (MoveR.opens m output q h d) = never (cc)
   stage-second (new ei er ni nr) (MoveR.resends output room q) = clash (cc)
   stage-second (new ei er ni nr) (MoveR.gives-up output q) = clash (cc)
-  stage-second (asked a ei k o er nr) (MoveR.answers m output number line transforms room q h e) = answers-half i r fi fr pair a ei k o nr m output number line transforms room h e
+  stage-second (asked a ei k o er nr) (MoveR.answers m output s room q h) = answers-half i r fi fr pair a ei k o nr m output s room h
   stage-second (asked a ei k o er nr) (MoveR.repeats output room q) = never (cc)
   stage-second (asked a ei k o er nr) (MoveR.opens m output q h d) = never (cc)
   stage-second (asked a ei k o er nr) (MoveR.resends output room q) = clash (cc)
   stage-second (asked a ei k o er nr) (MoveR.gives-up output q) = clash (cc)
-  stage-second (half a ei k o R er) (MoveR.answers m output number line transforms room q h e) = clash (cc)
-  stage-second (half a ei k o R er) (MoveR.repeats output room q) = half a ei k o (replied-again a r fr R output room) er
+  stage-second (half a ei k o R er) (MoveR.answers m output s room q h) = clash (cc)
+  stage-second (half a ei k o R er) (MoveR.repeats output room q) = half a ei k o (replied-again a r fr output R room (r .end .progress)) er
   stage-second (half a ei k o R er) (MoveR.opens m output q h d) =
       clash (sym d ∙ alike-trans m (offered a) (gotOf r) (only-heard m o h) (alike-sym (gotOf r) (offered a) (R .from)))
-  stage-second (half a ei k o R er) (MoveR.resends output room q) = half a ei k o (replied-more a r fr R output room) er
-  stage-second (half a ei k o R er) (MoveR.gives-up output q) = half a ei k o (replied-state a r fr R output GivenUp) refl
-  stage-second (done a ei k o R er ev eg) (MoveR.answers m output number line transforms room q h e) = clash (cc)
-  stage-second (done a ei k o R er ev eg) (MoveR.repeats output room q) = done a ei k o (replied-again a r fr R output room) er ev eg
-  stage-second (done a ei k o R er ev eg) (MoveR.opens m output q h d) = done a ei k o (replied-state a r fr R output Open) refl ev eg
-  stage-second (done a ei k o R er ev eg) (MoveR.resends output room q) = done a ei k o (replied-more a r fr R output room) er ev eg
-  stage-second (done a ei k o R er ev eg) (MoveR.gives-up output q) = done a ei k o (replied-state a r fr R output GivenUp) refl ev eg
+  stage-second (half a ei k o R er) (MoveR.resends output room q) = half a ei k o (replied-again a r fr output R room (oneMore (r .end .progress))) er
+  stage-second (half a ei k o R er) (MoveR.gives-up output q) = half a ei k o R refl
+  stage-second (done a ei k o R er ev eg) (MoveR.answers m output s room q h) = clash (cc)
+  stage-second (done a ei k o R er ev eg) (MoveR.repeats output room q) = done a ei k o (replied-again a r fr output R room (r .end .progress)) er ev eg
+  stage-second (done a ei k o R er ev eg) (MoveR.opens m output q h d) = done a ei k o R refl ev eg
+  stage-second (done a ei k o R er ev eg) (MoveR.resends output room q) = done a ei k o (replied-again a r fr output R room (oneMore (r .end .progress))) er ev eg
+  stage-second (done a ei k o R er ev eg) (MoveR.gives-up output q) = done a ei k o R refl ev eg
 
 -- ---- at every moment
 
@@ -388,7 +350,7 @@ open-both f k q = open-of (always f k .stage) q
 
 -- ---- the same values
 
-past-cases : (s : State) → past s ≡ true → (s ≡ Open) ⊎ (s ≡ Half) ⊎ (s ≡ GivenUp)
+pub past-cases : (s : State) → past s ≡ true → (s ≡ Open) ⊎ (s ≡ Half) ⊎ (s ≡ GivenUp)
 past-cases Idle e = clash e
 past-cases Sent e = clash e
 past-cases Half e = inr (inl refl)
@@ -401,17 +363,16 @@ same-of pair (new ei er ni nr) q = never (cc)
 same-of pair (asked a ei k o er nr) q = clash (cc)
 same-of pair (half a ei k o R er) q = clash (cc)
 same-of {i} {r} {fi} {fr} pair (done a ei k o R er ev eg) q =
-    let two = two-read i r fi fr pair a R in
-    let g = one-reads (i .end .own) (pair .fit-one) (a .some) (a .id) (a .some-id) (a .small-id) (a .first) (a .second) (a .identities) (gotOf r) (R .from) .nonce in
-    let reply : List ℕ = replyTo (r .end .own) (gotOf r) (R .number) (R .transforms) in
-    let written : nonceIn (sentOf r) ≡ nonceOf (r .end .own) = ap nonceIn (R .keeps .its-sent) ∙ two reply (alike-same reply) .1 in
-    let taken : nonceIn (gotOf i) ≡ nonceOf (r .end .own) = two (gotOf i) (subst (λ (n : List ℕ). alike (gotOf i) n ≡ true) (R .keeps .its-sent) eg) .1 in (
+    let reply : List ℕ = replyOf (r .end .own) (gotOf r) (R .suits) in
+    let two = two-read pair a (gotOf r) (R .from) (R .suits) in
+    let written : nonceIn (sentOf r) ≡ nonceOf (r .end .own) = ap nonceIn (R .keeps .its-sent) ∙ two reply (alike-same reply) .nonce in
+    let taken : nonceIn (gotOf i) ≡ nonceOf (r .end .own) = two (gotOf i) (rw (R .keeps .its-sent) at eg) .nonce in (
       record {
         same-set = ap (λ (x : Agreed). x .set) (sym ev);
         same-transforms = ap (λ (x : Agreed). x .transforms) (sym ev);
         same-initiator = ap (λ (x : Agreed). x .initiator) (sym ev);
         same-responder = ap (λ (x : Agreed). x .responder) (sym ev);
-        initiator-nonce = g;
+        initiator-nonce = one-read (pair .fit-one) a (gotOf r) (R .from) .nonce;
         responder-nonce = written ∙ sym taken;
         responder-own = written;
       },
