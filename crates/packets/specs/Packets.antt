@@ -6,7 +6,7 @@ use lib.ListN.{length, getD}
 use lib.Dec.{leb, eqb}
 use Rattle.wire.specs.Wire.{numberAt}
 use Rattle.wire.specs.Tests.{if_then_else_}
-use Rattle.wire.specs.Answer.{Answer}
+use Rattle.wire.specs.Answer.{Answer, done, refused}
 use Rattle.packets.specs.declared.Packet.{Packet}
 use Rattle.packets.specs.declared.Packet.the-variants.{Read, Refused}
 
@@ -39,5 +39,5 @@ read protocol s =
 
 -- the paper's number and values for each case
 unfoldable pub answer : Packet → Answer
-answer (Read spi number) = record { number = 0; values = spi ∷ number ∷ [] }
-answer (Refused number) = record { number = number; values = [] }
+answer (Read spi number) = done (spi ∷ number ∷ [])
+answer (Refused number) = refused number
