@@ -6,7 +6,7 @@ use mathlib.Core.Bool.{Bool, not, _||_, _&&_}
 use lib.Dec.{ltb, leb, eqb}
 use lib.Count.{ones}
 use Rattle.wire.specs.Tests.{if_then_else_}
-use Rattle.wire.specs.Answer.{Answer}
+use Rattle.wire.specs.Answer.{Answer, done, refused}
 use Rattle.receive.specs.declared.Receive.{Receive}
 use Rattle.receive.specs.declared.Verdict.{Verdict}
 use Rattle.receive.specs.declared.Verdict.the-variants.{Accepted, Refused}
@@ -56,5 +56,5 @@ lossLine r = record { highest = r .highest; span = min (r .highest) 64; count = 
 
 -- the paper's number and values for each case
 unfoldable pub answer : Verdict → Answer
-answer Accepted = record { number = 0; values = 1 ∷ [] }
-answer (Refused number) = record { number = number; values = [] }
+answer Accepted = done (1 ∷ [])
+answer (Refused number) = refused number
