@@ -6,7 +6,7 @@ use mathlib.Core.Bool.{Bool, not, _&&_}
 use lib.ListN.{getD, set, replicate}
 use lib.Dec.{ltb, leb, eqb}
 use Rattle.wire.specs.Tests.{if_then_else_}
-use Rattle.wire.specs.Answer.{Answer}
+use Rattle.wire.specs.Answer.{Answer, done, refused}
 use Rattle.receive.specs.declared.Verdict.{Verdict}
 use Rattle.receive.specs.declared.Verdict.the-variants as Y
 use Rattle.receive.specs.declared.Judged.{Judged}
@@ -128,13 +128,13 @@ loss t key =
 -- ---- the paper's number and values for each case
 
 unfoldable pub outcome : Outcome → Answer
-outcome O.Done = record { number = 0; values = 1 ∷ [] }
-outcome (O.Refused number) = record { number = number; values = [] }
+outcome O.Done = done (1 ∷ [])
+outcome (O.Refused number) = refused number
 
 unfoldable pub sending : Sending → Answer
-sending (S.Number n) = record { number = 0; values = n ∷ [] }
-sending (S.Refused number) = record { number = number; values = [] }
+sending (S.Number n) = done (n ∷ [])
+sending (S.Refused number) = refused number
 
 unfoldable pub counted : Counted → Answer
-counted (C.Line l) = record { number = 0; values = l .highest ∷ l .span ∷ l .count ∷ [] }
-counted (C.Refused number) = record { number = number; values = [] }
+counted (C.Line l) = done (l .highest ∷ l .span ∷ l .count ∷ [])
+counted (C.Refused number) = refused number

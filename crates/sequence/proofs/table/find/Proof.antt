@@ -1,7 +1,7 @@
 -- Invariant: what is looked for from i on is what is looked for from the start. Each way out is a law of Ways.
 use borrow.Author.Needs.{needs}
-use Rattle.sequence.proofs.Ways.{find-end, find-here, find-on}
-use Rattle.sequence.specs.Table.{holds, first, find}
+use Rattle.sequence.proofs.Ways.{first-end, first-here, first-on}
+use Rattle.sequence.specs.Table.{rooms, holds, first, find}
 use native.Mathlib.Omega.{arith}
 use mathlib.Core.Path.{_≡_, refl}
 use Prim.Native.Nat.{_-_, _≤_}
@@ -9,10 +9,10 @@ use Rattle.sequence.proofs.table.find.Statement.{statement}
 use Rattle.sequence.proofs.table.find.Tie as tie
 
 abbrev Inv-loop : tie.InvT-loop
-Inv-loop t key i₀ i = (i ≤ 64) × (first (holds t key) (64 - i) i ≡ find t key)
+Inv-loop t key i₀ i = (i ≤ rooms) × (first (holds t key) (rooms - i) i ≡ find t key)
 
 abbrev μ-loop : tie.MeasureT-loop
-μ-loop t key i₀ i = 64 - i
+μ-loop t key i₀ i = rooms - i
 
 pub find-spec : {M : Type 1} → statement M
 unfolding find
@@ -23,8 +23,8 @@ find-spec =
     μ-loop
     (λ c. (search needs, refl))
     (λ c κs. search needs)
-    (λ c. search find-here)
+    (λ c. search first-here)
     (λ c. search needs)
     (λ c. search needs)
-    (λ c. (omega arith, search find-on))
-    (λ c. search find-end))
+    (λ c. (omega arith, search first-on))
+    (λ c. search first-end))
