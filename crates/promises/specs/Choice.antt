@@ -5,18 +5,18 @@
 use Prim.Native.Nat.{ℕ, _+_, _≤_, _<_}
 use mathlib.Core.Path.{_≡_, refl, sym, ap, _∙_}
 use mathlib.Core.List.{List}
-use mathlib.Core.Bool.{true, false}
+use mathlib.Core.Bool.{false}
 use native.Mathlib.Omega.{arith}
 use lib.ListN.{length, getD}
 use lib.Dec.{eqb}
 use borrow.Author.Tests.{ne-eqb}
 use Rattle.wire.specs.Tests.{if_then_else_}
 use Rattle.wire.specs.Answer.{Answer}
-use Rattle.wire.proofs.Tests.{never, clash, by-test}
+use Rattle.wire.proofs.Tests.{never, clash}
 use Rattle.message.specs.Message.{message}
 use Rattle.message.specs.declared.Message.the-variants as read
 use Rattle.fields.specs.Fields.{transformCount}
-use Rattle.sets.specs.Parts.{set, setCount, proposal, proposalCount}
+use Rattle.sets.specs.Parts.{set, setCount, proposal}
 use Rattle.book.specs.Book.{bookRead, answer as bookAnswer}
 use Rattle.suits.specs.Suits.{transformSuits, lowest, setSuits}
 use Rattle.policy.specs.Choice.{lineCount, chosen, chooseFrom, saFrom, messageChoice, bookChoice, choice, answer}
@@ -28,7 +28,8 @@ use Rattle.policy.specs.declared.Choice.{Choice}
 use Rattle.policy.specs.declared.Choice.the-variants.{Refused, Chosen}
 use Rattle.reply.specs.declared.Outcome.{Outcome}
 use Rattle.reply.specs.declared.Outcome.the-variants as replies
-use Rattle.policy.proofs.Laws.{First, none, here, lowest-is, NoLine, Choosing, fourteen, chose, choosing, Suits, suits-says, says-suits}
+use Rattle.promises.specs.SequenceAnswers.{parts}
+use Rattle.policy.proofs.Laws.{First, lowest-is, NoLine, Choosing, fourteen, chose, choosing, Suits, suits-says, says-suits}
 
 -- a lawful book, and a message that reads and has an SA payload
 pub record Offer (book m : List ℕ) : Type 0 where
@@ -120,24 +121,16 @@ answer-own x y h = sym (meant-answer x) ∙ ap meant h ∙ meant-answer y
 
 -- ---- nor two books, nor two replies
 
-abbrev meantBook : Answer → Book
-meantBook a = if eqb (length (a .values)) 0 then books.Refused (a .number) else books.Lawful (getD (a .values) 0 0) (getD (a .values) 1 0)
-
-book-meant : (b : Book) → meantBook (bookAnswer b) ≡ b
-unfolding bookAnswer
-book-meant (books.Refused number) = refl
-book-meant (books.Lawful main quick) = refl
-
 pub book-own : (x y : Book) → bookAnswer x ≡ bookAnswer y → x ≡ y
-book-own x y h = sym (book-meant x) ∙ ap meantBook h ∙ book-meant y
-
-abbrev meantReply : Answer → Outcome
-meantReply a = if eqb (length (a .values)) 0 then replies.Refused (a .number) else replies.Written (getD (a .values) 0 0)
-
-reply-meant : (r : Outcome) → meantReply (replyAnswer r) ≡ r
-unfolding replyAnswer
-reply-meant (replies.Refused number) = refl
-reply-meant (replies.Written size) = refl
+unfolding bookAnswer
+book-own (books.Lawful main quick) (books.Lawful main′ quick′) h = let e = parts _ _ h in cc
+book-own (books.Lawful main quick) (books.Refused m) h = let e = parts _ _ h in never (cc)
+book-own (books.Refused n) (books.Lawful main′ quick′) h = let e = parts _ _ h in never (cc)
+book-own (books.Refused n) (books.Refused m) h = let e = parts _ _ h in cc
 
 pub reply-own : (x y : Outcome) → replyAnswer x ≡ replyAnswer y → x ≡ y
-reply-own x y h = sym (reply-meant x) ∙ ap meantReply h ∙ reply-meant y
+unfolding replyAnswer
+reply-own (replies.Written n) (replies.Written m) h = let e = parts _ _ h in cc
+reply-own (replies.Written n) (replies.Refused m) h = let e = parts _ _ h in never (cc)
+reply-own (replies.Refused n) (replies.Written m) h = let e = parts _ _ h in never (cc)
+reply-own (replies.Refused n) (replies.Refused m) h = let e = parts _ _ h in cc

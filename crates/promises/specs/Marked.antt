@@ -1,7 +1,6 @@
 -- The marked examples of document 01 as one table: what the definitions answer beside what the paper says, under one theorem.
-use Prim.Native.Nat.{ℕ}
 use mathlib.Core.Path.{_≡_, refl}
-use mathlib.Core.List.{List, [], _∷_, _++_, map}
+use mathlib.Core.List.{List, [], _∷_, map}
 use mathlib.Core.Bool.{true, false}
 use lib.ListN.{length, set}
 use Rattle.wire.specs.Wire.{numberAt, bytesOf, head, headed, allZero, paste}

@@ -1,18 +1,17 @@
 -- Reading a message: the payloads that are handed out by number are those that the reading found, and they lie one behind the other
 -- from byte 28 on.
 use Prim.Native.Nat.{ℕ, suc, _+_, _≤_, _<_}
-use mathlib.Core.Path.{_≡_, refl, sym, ap, _∙_}
+use mathlib.Core.Path.{_≡_, sym, ap}
 use mathlib.Core.List.{List}
 use native.Mathlib.Omega.{arith}
-use lib.ListN.{length, getD}
-use lib.Dec.{eqb}
-use Rattle.wire.specs.Tests.{if_then_else_}
-use Rattle.wire.specs.Answer.{Answer}
+use lib.ListN.{length}
 use Rattle.header.specs.Header.{firstPayload}
 use Rattle.message.specs.Message.{payloads, reading, walk, payloadAt, answer}
 use Rattle.message.specs.declared.Payload.{Payload}
 use Rattle.message.specs.declared.Message.{Message}
 use Rattle.message.specs.declared.Message.the-variants.{Refused, Read}
+use Rattle.wire.proofs.Tests.{never}
+use Rattle.promises.specs.SequenceAnswers.{parts}
 use Rattle.message.proofs.Laws.{nth, walk-start, reading-found}
 
 -- what is promised of the payloads ps that were found in m
@@ -37,13 +36,9 @@ in-line m ps e =
 
 -- ---- no two answers of `read` have the same number and values
 
-abbrev meant : Answer → Message
-meant a = if eqb (length (a .values)) 0 then Refused (a .number) else Read (getD (a .values) 0 0) (getD (a .values) 1 0)
-
-meant-answer : (x : Message) → meant (answer x) ≡ x
-unfolding answer
-meant-answer (Refused number) = refl
-meant-answer (Read exchange count) = refl
-
 pub answer-own : (x y : Message) → answer x ≡ answer y → x ≡ y
-answer-own x y h = sym (meant-answer x) ∙ ap meant h ∙ meant-answer y
+unfolding answer
+answer-own (Read exchange count) (Read exchange′ count′) h = let e = parts _ _ h in cc
+answer-own (Read exchange count) (Refused m) h = let e = parts _ _ h in never (cc)
+answer-own (Refused n) (Read exchange′ count′) h = let e = parts _ _ h in never (cc)
+answer-own (Refused n) (Refused m) h = let e = parts _ _ h in cc

@@ -3,9 +3,9 @@
 use Prim.Native.Nat.{ℕ}
 use mathlib.Core.Path.{_≡_, refl, sym, ap, _∙_}
 use mathlib.Core.List.{List}
-use mathlib.Core.Bool.{Bool, true, false, not, _||_}
+use mathlib.Core.Bool.{Bool, not, _||_}
 use lib.ListN.{length, getD}
-use lib.Dec.{ltb, eqb}
+use lib.Dec.{eqb}
 use Rattle.wire.specs.Tests.{if_then_else_}
 use Rattle.wire.specs.Answer.{Answer}
 use Rattle.wire.proofs.Tests.{never, by-test}
@@ -14,13 +14,14 @@ use Rattle.policy.specs.declared.Choice.the-variants as choices
 use Rattle.ends.specs.Fresh.{isInitiator}
 use Rattle.shapes.specs.Shapes.{isLonger, alike, shapeOf}
 use Rattle.checks.specs.Checks.{takenCode}
-use Rattle.quick.specs.Ends.{After, small, kept, refusing, beginCode, begun, tickCode, isOpen, ticked, deliveryCode, opened, atInitiator, halfway, answered, atResponder, delivered, answer}
+use Rattle.quick.specs.Ends.{After, kept, refusing, begun, ticked, opened, atInitiator, halfway, answered, atResponder, delivered, answer}
 use Rattle.ends.specs.declared.End.{End}
 use Rattle.ends.specs.declared.State.{State}
 use Rattle.ends.specs.declared.State.the-variants.{Idle, Sent, Half, Open, GivenUp}
 use Rattle.quick.specs.declared.StepAnswer.{StepAnswer}
 use Rattle.quick.specs.declared.StepAnswer.the-variants.{Send, Nothing, Refused}
-use Rattle.exchange.specs.Exchange.{World, Run, Fresh}
+use Rattle.exchange.specs.Exchange.{Party, World, Run, Fresh}
+use Rattle.exchange.specs.ExchangeMoves.{by-begin, by-tick, by-delivery}
 use Rattle.exchange.specs.ExchangeWritten.{AllReadable, all-readable}
 
 module _ (end : End) (sent got output : List ℕ) where
@@ -37,16 +38,14 @@ module _ (end : End) (sent got output : List ℕ) where
   quiet : (after : After) → after .step .answer ≡ Nothing → Unchanged after
   quiet after h = record { as-it-was = λ n e. never (cc) }
 
+  abbrev itself : Party
+  itself = record { end = end; sent = sent; got = got }
+
   pub begin-refused : (id : ℕ) (first second : List ℕ) → Unchanged (begun end id first second sent got output)
-  unfolding begun
-  begin-refused id first second = by-test (eqb (beginCode end id first second (small sent got output)) 0) (λ e. rw e (sends _ _ refl)) (λ e. rw e (refuses _))
+  begin-refused id first second = by-begin itself output Unchanged refuses id first second (λ b. sends _ _ refl)
 
   pub tick-refused : Unchanged (ticked end sent got output)
-  unfolding ticked
-  tick-refused =
-      by-test (not (eqb (tickCode (end .progress .state) (small sent got output)) 0)) (λ e. rw e (refuses _))
-      (λ e. by-test (isOpen (end .progress .state)) (λ f. rw (e, f) (quiet _ refl))
-      (λ f. by-test (ltb (end .progress .sends) 4) (λ g. rw (e, f, g) (sends _ _ refl)) (λ g. rw (e, f, g) (quiet _ refl))))
+  tick-refused = by-tick itself output Unchanged refuses (λ q. quiet _ refl) (λ room w. sends _ _ refl) (λ w. quiet _ refl)
 
   module _ (m : List ℕ) where
     initiator-refused : (state : State) → Unchanged (atInitiator end m sent got output state)
@@ -75,10 +74,9 @@ module _ (end : End) (sent got output : List ℕ) where
     responder-refused GivenUp = refuses _
 
     pub delivery-refused : (holds : Bool) → Unchanged (delivered end holds m sent got output)
-    unfolding delivered
     delivery-refused holds =
-        by-test (not (eqb (deliveryCode end holds m (small sent got output)) 0)) (λ e. rw e (refuses _))
-        (λ e. by-test (isInitiator (end .own .role)) (λ f. rw (e, f) (initiator-refused (end .progress .state))) (λ f. rw (e, f) (responder-refused (end .progress .state))))
+        by-delivery itself output Unchanged refuses m holds
+        (λ room h. by-test (isInitiator (end .own .role)) (λ f. rw f (initiator-refused (end .progress .state))) (λ f. rw f (responder-refused (end .progress .state))))
 
 -- ---- no two answers of a step have the same number and values
 

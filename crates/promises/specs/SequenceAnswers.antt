@@ -1,11 +1,8 @@
 -- No two answers of one type have the same number and values.
-use Prim.Native.Nat.{ℕ, _-_}
-use mathlib.Core.Path.{_≡_, refl, sym, ap, _∙_}
-use mathlib.Core.Bool.{Bool}
-use lib.ListN.{length, getD}
-use lib.Dec.{eqb}
-use Rattle.wire.specs.Tests.{if_then_else_}
+use mathlib.Core.Path.{_≡_, refl, ap}
+use lib.ListN.{getD}
 use Rattle.wire.specs.Answer.{Answer}
+use Rattle.wire.proofs.Tests.{never}
 use Rattle.receive.specs.declared.Verdict.{Verdict}
 use Rattle.packets.specs.declared.Packet.{Packet}
 use Rattle.packets.specs.declared.Packet.the-variants.{Read, Refused}
@@ -19,67 +16,42 @@ use Rattle.receive.specs.declared.Verdict.the-variants as Y
 use Rattle.receive.specs.Receive.{answer}
 use Rattle.packets.specs.Packets.{answer as packetAnswer}
 use Rattle.sequence.specs.Table.{outcome, sending, counted}
-use Rattle.promises.specs.History.{highest}
 
--- ---- no two answers have the same number and values
-
-abbrev isAlone : Answer → Bool
-isAlone a = eqb (length (a .values)) 0
-
-abbrev value : Answer → ℕ → ℕ
-value a k = getD (a .values) k 0
-
-abbrev meantVerdict : Answer → Verdict
-meantVerdict a = if isAlone a then Y.Refused (a .number) else Y.Accepted
-
-verdict-meant : (x : Verdict) → meantVerdict (answer x) ≡ x
-unfolding answer
-verdict-meant Y.Accepted = refl
-verdict-meant (Y.Refused n) = refl
+-- what equal answers share
+pub parts : (a b : Answer) → a ≡ b → (a .number ≡ b .number) × (a .values ≡ b .values)
+parts a b e = (ap (λ (x : Answer). x .number) e, ap (λ (x : Answer). x .values) e)
 
 pub verdict-own : (x y : Verdict) → answer x ≡ answer y → x ≡ y
-verdict-own x y h = sym (verdict-meant x) ∙ ap meantVerdict h ∙ verdict-meant y
-
-abbrev meantPacket : Answer → Packet
-meantPacket a = if isAlone a then Refused (a .number) else Read (value a 0) (value a 1)
-
-packet-meant : (x : Packet) → meantPacket (packetAnswer x) ≡ x
-unfolding packetAnswer
-packet-meant (Read spi number) = refl
-packet-meant (Refused n) = refl
+unfolding answer
+verdict-own Y.Accepted Y.Accepted h = refl
+verdict-own Y.Accepted (Y.Refused m) h = let e = parts _ _ h in never (cc)
+verdict-own (Y.Refused n) Y.Accepted h = let e = parts _ _ h in never (cc)
+verdict-own (Y.Refused n) (Y.Refused m) h = let e = parts _ _ h in cc
 
 pub packet-own : (x y : Packet) → packetAnswer x ≡ packetAnswer y → x ≡ y
-packet-own x y h = sym (packet-meant x) ∙ ap meantPacket h ∙ packet-meant y
-
-abbrev meantOutcome : Answer → Outcome
-meantOutcome a = if isAlone a then O.Refused (a .number) else O.Done
-
-outcome-meant : (x : Outcome) → meantOutcome (outcome x) ≡ x
-unfolding outcome
-outcome-meant O.Done = refl
-outcome-meant (O.Refused n) = refl
+unfolding packetAnswer
+packet-own (Read spi number) (Read spi′ number′) h = let e = parts _ _ h in cc
+packet-own (Read spi number) (Refused m) h = let e = parts _ _ h in never (cc)
+packet-own (Refused n) (Read spi′ number′) h = let e = parts _ _ h in never (cc)
+packet-own (Refused n) (Refused m) h = let e = parts _ _ h in cc
 
 pub outcome-own : (x y : Outcome) → outcome x ≡ outcome y → x ≡ y
-outcome-own x y h = sym (outcome-meant x) ∙ ap meantOutcome h ∙ outcome-meant y
-
-abbrev meantSending : Answer → Sending
-meantSending a = if isAlone a then S.Refused (a .number) else S.Number (value a 0)
-
-sending-meant : (x : Sending) → meantSending (sending x) ≡ x
-unfolding sending
-sending-meant (S.Number n) = refl
-sending-meant (S.Refused n) = refl
+unfolding outcome
+outcome-own O.Done O.Done h = refl
+outcome-own O.Done (O.Refused m) h = let e = parts _ _ h in never (cc)
+outcome-own (O.Refused n) O.Done h = let e = parts _ _ h in never (cc)
+outcome-own (O.Refused n) (O.Refused m) h = let e = parts _ _ h in cc
 
 pub sending-own : (x y : Sending) → sending x ≡ sending y → x ≡ y
-sending-own x y h = sym (sending-meant x) ∙ ap meantSending h ∙ sending-meant y
-
-abbrev meantCounted : Answer → Counted
-meantCounted a = if isAlone a then C.Refused (a .number) else C.Line (record { highest = value a 0; span = value a 1; count = value a 2 })
-
-counted-meant : (x : Counted) → meantCounted (counted x) ≡ x
-unfolding counted
-counted-meant (C.Line l) = refl
-counted-meant (C.Refused n) = refl
+unfolding sending
+sending-own (S.Number n) (S.Number m) h = let e = parts _ _ h in cc
+sending-own (S.Number n) (S.Refused m) h = let e = parts _ _ h in never (cc)
+sending-own (S.Refused n) (S.Number m) h = let e = parts _ _ h in never (cc)
+sending-own (S.Refused n) (S.Refused m) h = let e = parts _ _ h in cc
 
 pub counted-own : (x y : Counted) → counted x ≡ counted y → x ≡ y
-counted-own x y h = sym (counted-meant x) ∙ ap meantCounted h ∙ counted-meant y
+unfolding counted
+counted-own (C.Line k) (C.Line l) h = ap (λ (a : Answer). C.Line (record { highest = getD (a .values) 0 0; span = getD (a .values) 1 0; count = getD (a .values) 2 0 })) h
+counted-own (C.Line k) (C.Refused m) h = let e = parts _ _ h in never (cc)
+counted-own (C.Refused n) (C.Line l) h = let e = parts _ _ h in never (cc)
+counted-own (C.Refused n) (C.Refused m) h = let e = parts _ _ h in cc

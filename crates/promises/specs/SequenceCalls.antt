@@ -1,6 +1,6 @@
 -- One call against what came before: a table that keeps the lives of a list of events answers the call rightly, and keeps what then has
 -- come before.
-use Prim.Native.Nat.{ℕ, _+_, _-_, _<_, min}
+use Prim.Native.Nat.{ℕ, _+_, _<_, min}
 use mathlib.Core.Path.{_≡_, refl, ap, _∙_}
 use mathlib.Core.Bool.{Bool, true, false, not, _&&_, and-false}
 use mathlib.Core.List.{List, [], _∷_}
@@ -20,13 +20,16 @@ use Rattle.sequence.specs.declared.table.Key.{Key}
 use Rattle.sequence.specs.declared.table.Entry.{Entry}
 use Rattle.receive.specs.Receive.{judged, answer}
 use Rattle.packets.specs.Packets.{known, ahSize, ah, esp, read}
-use Rattle.sequence.specs.Table.{empty, find, free, entryAt, putEntry, emptied, added, removed, judgedAt, packetRead, packet, handedOut, sent, loss, outcome, sending, counted}
+use Rattle.sequence.specs.Table.{rooms, empty, find, free, entryAt, putEntry, emptied, added, removed, judgedAt, packetRead, packet, handedOut, sent, loss, outcome, sending, counted}
 use Rattle.promises.specs.History.{Call, adds, removes, shows, sends, asks, Event, isDone, same, keyOf, lives, accepted, handed, entries, highest, recent, rightNumber, rightPacket, right, answered}
 use Rattle.promises.specs.SequenceRecord.{Shows, one-step, count-right, after}
-use Rattle.promises.specs.SequenceTable.{begun, Keeps, keeps-none, keeps-entry, keeps-added, keeps-removed, keeps-said, same-self, same-not, full-taken}
+use Rattle.promises.specs.SequenceTable.{begun, Life, Keeps, keeps-none, keeps-entry, keeps-added, keeps-removed, keeps-said, same-self, same-not, full-taken}
+
+abbrev pub lifeOf : List Event → Key → Life
+lifeOf past key = record { lives = lives key past; accepted = accepted key past; handed = handed key past }
 
 abbrev pub Keeping : List ℕ → List Event → Type 0
-Keeping t past = Keeps t (λ key. lives key past) (λ key. accepted key past) (λ key. handed key past) (entries past)
+Keeping t past = Keeps t (lifeOf past) (entries past)
 
 -- the call is answered rightly, and the table keeps what then has come before
 abbrev pub Rightly : List ℕ → List Event → Call → Type 0
@@ -36,11 +39,11 @@ rightly : (t : List ℕ) (past : List Event) (c : Call) (a : Answer) (u : List �
     Keeping u (record { call = c; answer = a } ∷ past) → Rightly t past c
 rightly t past c a u e r k = rw (e, r) (refl, k)
 
-leb-not : (x : ℕ) → leb 64 x ≡ not (ltb x 64)
+leb-not : (x : ℕ) → leb rooms x ≡ not (ltb x rooms)
 leb-not x =
-    by-test (ltb x 64)
-    (λ e. rw e (lt-leb 64 x (ltb-true x 64 e)))
-    (λ e. rw e (le-leb 64 x (ltb-false x 64 e)))
+    by-test (ltb x rooms)
+    (λ e. rw e (lt-leb rooms x (ltb-true x rooms e)))
+    (λ e. rw e (le-leb rooms x (ltb-false x rooms e)))
 
 -- a packet that is not read is refused with a number that is not 0
 pub unread : (protocol : ℕ) (s : List ℕ) (n : ℕ) → read protocol s ≡ Refused n → eqb n 0 ≡ false
@@ -61,30 +64,25 @@ module _ (t : List ℕ) (past : List Event) (k : Keeping t past) where
   -- a refusal is nothing to any key
   quiet : (c : Call) (n : ℕ) → eqb n 0 ≡ false → Keeping t (record { call = c; answer = refused n } ∷ past)
   unfolding lives accepted handed entries
-  quiet c n h = keeps-said k (λ b. rw h) (λ b. rw h) (λ b. rw h) (rw h)
+  quiet c n h = keeps-said k (λ b. rw h) (rw h)
 
-  absent : (key : Key) → leb 64 (find t key) ≡ not (lives key past)
+  absent : (key : Key) → leb rooms (find t key) ≡ not (lives key past)
   absent key = leb-not (find t key) ∙ ap not (k .present key)
 
   -- ---- adding and removing
 
   module _ (key : Key) where
-    begins-life : lives key past ≡ false → leb 64 (entries past) ≡ false → Keeping (begun t key) (record { call = adds key; answer = done (1 ∷ []) } ∷ past)
+    begins-life : lives key past ≡ false → leb rooms (entries past) ≡ false → Keeping (begun t key) (record { call = adds key; answer = done (1 ∷ []) } ∷ past)
     unfolding lives accepted handed entries keyOf
     begins-life l f =
-        keeps-added k key (λ b. lives b (record { call = adds key; answer = done (1 ∷ []) } ∷ past)) (λ b. accepted b (record { call = adds key; answer = done (1 ∷ []) } ∷ past)) (λ b. handed b (record { call = adds key; answer = done (1 ∷ []) } ∷ past))
-        (record { lives-on = λ b d. rw (same-not key b d); accepted-on = λ b d. rw (same-not key b d); handed-on = λ b d. rw (same-not key b d) })
-        (ltb-false (find t key) 64 (k .present key ∙ l))
-        (leb-false 64 (free t) (full-taken t ∙ ap (leb 64) (k .many) ∙ f))
-        (rw (same-self key)) (rw (same-self key)) (rw (same-self key))
+        keeps-added k key (lifeOf (record { call = adds key; answer = done (1 ∷ []) } ∷ past)) (λ b d. rw (same-not key b d)) (ltb-false (find t key) rooms (k .present key ∙ l))
+        (leb-false rooms (free t) (full-taken t ∙ ap (leb rooms) (k .many) ∙ f))
+        (rw (same-self key))
 
     ends-life : lives key past ≡ true → Keeping (emptied t (find t key)) (record { call = removes key; answer = done (1 ∷ []) } ∷ past)
     unfolding lives accepted handed entries keyOf
     ends-life l =
-        keeps-removed k key (λ b. lives b (record { call = removes key; answer = done (1 ∷ []) } ∷ past)) (λ b. accepted b (record { call = removes key; answer = done (1 ∷ []) } ∷ past)) (λ b. handed b (record { call = removes key; answer = done (1 ∷ []) } ∷ past))
-        (record { lives-on = λ b d. rw (same-not key b d); accepted-on = λ b d. rw (same-not key b d); handed-on = λ b d. rw (same-not key b d) })
-        (ltb-true (find t key) 64 (k .present key ∙ l))
-        (rw (same-self key))
+        keeps-removed k key (lifeOf (record { call = removes key; answer = done (1 ∷ []) } ∷ past)) (λ b d. rw (same-not key b d)) (ltb-true (find t key) rooms (k .present key ∙ l)) (rw (same-self key))
 
     adds-rightly : Rightly t past (adds key)
     unfolding answered right added outcome
@@ -97,7 +95,7 @@ module _ (t : List ℕ) (past : List Event) (k : Keeping t past) where
         by-test (lives key past)
         (λ e3. rightly t past (adds key) (refused 8200) t (rw (e1, e2, k .present key, e3)) (rw (e1, e2, e3)) (quiet (adds key) 8200 refl))
         (λ e3.
-        by-test (leb 64 (entries past))
+        by-test (leb rooms (entries past))
         (λ e4. rightly t past (adds key) (refused 8199) t (rw (e1, e2, k .present key, e3, full-taken t, k .many, e4)) (rw (e1, e2, e3, e4)) (quiet (adds key) 8199 refl))
         (λ e4. rightly t past (adds key) (done (1 ∷ [])) (begun t key) (rw (e1, e2, k .present key, e3, full-taken t, k .many, e4)) (rw (e1, e2, e3, e4)) (begins-life e3 e4)))))
         (λ e1. rightly t past (adds key) (refused 10) t (rw e1) (rw e1) (quiet (adds key) 10 refl))
@@ -124,21 +122,13 @@ module _ (t : List ℕ) (past : List Event) (k : Keeping t past) where
         abbrev now-past : List Event
         now-past = record { call = c; answer = a } ∷ past
 
-        own-accepted : accepted key now-past ≡ after a number (accepted key past)
-        unfolding accepted keyOf
-        own-accepted = by-test (isDone a) (λ h. rw (is, h, same-self key)) (λ h. rw h)
+        own-life : lifeOf now-past key ≡ record { lives = lives key past; accepted = after a number (accepted key past); handed = handed key past }
+        unfolding lives accepted handed keyOf
+        own-life = by-test (isDone a) (λ h. rw (is, h, same-self key)) (λ h. rw h)
 
-        other-accepted : (b : Key) → (key ≡ b → ⊥) → accepted b now-past ≡ accepted b past
-        unfolding accepted keyOf
-        other-accepted b d = rw (is, same-not key b d, and-false (isDone a))
-
-        same-handed : (b : Key) → handed b now-past ≡ handed b past
-        unfolding handed
-        same-handed b = by-test (isDone a && same (keyOf c) b) (λ h. rw h) (λ h. rw h)
-
-        same-lives : (b : Key) → lives b now-past ≡ lives b past
-        unfolding lives
-        same-lives b = by-test (isDone a && same (keyOf c) b) (λ h. rw h) (λ h. rw h)
+        other-life : (b : Key) → (key ≡ b → ⊥) → lifeOf now-past b ≡ lifeOf past b
+        unfolding lives accepted handed keyOf
+        other-life b d = rw (is, same-not key b d, and-false (isDone a))
 
         same-entries : entries now-past ≡ entries past
         unfolding entries
@@ -147,19 +137,19 @@ module _ (t : List ℕ) (past : List Event) (k : Keeping t past) where
       judged-rightly : lives key past ≡ true → Rightly t past c
       unfolding answered right rightPacket packet packetRead judgedAt
       judged-rightly l =
-          let here : find t key < 64 = ltb-true (find t key) 64 (k .present key ∙ l) in
+          let here : find t key < rooms = ltb-true (find t key) rooms (k .present key ∙ l) in
           let e : Entry = entryAt t (find t key) in
           let j : Judged = judged (e .receive) number whole in
           let a : Answer = rightNumber (accepted key past) number whole in
           let q : (answer (j .verdict) ≡ a) × Shows (j .receive) (after a number (accepted key past)) =
-          one-step (e .receive) (accepted key past) (k .shown key here) number whole in
+          one-step (e .receive) (accepted key past) (k .entry key here .shown) number whole in
           rightly t past c a (putEntry t (find t key) (record { receive = j .receive; sent = e .sent }))
           (rw (is, absent key, l, q .0))
           (rw (is, l))
           (keeps-said
-          (keeps-entry k key here (record { receive = j .receive; sent = e .sent }) (λ b. accepted b (now-past a)) (λ b. handed b past)
-          (rw (own-accepted a) (q .1)) (k .counts key here) (other-accepted a) (λ b d. refl))
-          (same-lives a) (λ b. refl) (same-handed a) (same-entries a))
+          (keeps-entry k key (lifeOf (now-past a)) (other-life a) here (record { receive = j .receive; sent = e .sent }) (ap (λ (x : Life). x .lives) (own-life a) ∙ l)
+          (rw (own-life a) (record { shown = q .1; counts = k .entry key here .counts })))
+          (λ b. refl) (same-entries a))
 
       read-rightly : Rightly t past c
       unfolding answered right rightPacket packet packetRead answer
@@ -183,14 +173,14 @@ module _ (t : List ℕ) (past : List Event) (k : Keeping t past) where
 
   module _ (key : Key) where
     module _ (l : lives key past ≡ true) where
-      here : find t key < 64
-      here = ltb-true (find t key) 64 (k .present key ∙ l)
+      here : find t key < rooms
+      here = ltb-true (find t key) rooms (k .present key ∙ l)
 
       abbrev last : ℕ
       last = length (handed key past)
 
       counted-so : entryAt t (find t key) .sent ≡ last
-      counted-so = k .counts key here
+      counted-so = k .entry key here .counts
 
       abbrev sent-then : List Event
       sent-then = record { call = sends key; answer = done ((last + 1) ∷ []) } ∷ past
@@ -198,10 +188,8 @@ module _ (t : List ℕ) (past : List Event) (k : Keeping t past) where
       hands-out : Keeping (putEntry t (find t key) (record { receive = entryAt t (find t key) .receive; sent = last + 1 })) sent-then
       unfolding lives accepted handed entries keyOf
       hands-out =
-          keeps-said
-          (keeps-entry k key here (record { receive = entryAt t (find t key) .receive; sent = last + 1 }) (λ b. accepted b past) (λ b. handed b sent-then)
-          (k .shown key here) (rw (same-self key) (omega arith)) (λ b d. refl) (λ b d. rw (same-not key b d)))
-          (λ b. by-test (same key b) (λ h. rw h) (λ h. rw h)) (λ b. by-test (same key b) (λ h. rw h) (λ h. rw h)) (λ b. refl) refl
+          keeps-entry k key (lifeOf sent-then) (λ b d. rw (same-not key b d)) here (record { receive = entryAt t (find t key) .receive; sent = last + 1 }) (rw (same-self key) l)
+          (rw (same-self key) (record { shown = k .entry key here .shown; counts = omega arith }))
 
       sent-rightly : Rightly t past (sends key)
       unfolding answered right sent handedOut sending
@@ -216,14 +204,11 @@ module _ (t : List ℕ) (past : List Event) (k : Keeping t past) where
       unfolding answered right loss counted lives accepted handed entries
       asked-rightly =
           let r : Receive = entryAt t (find t key) .receive in
-          let shows-it : Shows r (accepted key past) = k .shown key here in
+          let shows-it : Shows r (accepted key past) = k .entry key here .shown in
           rightly t past (asks key) (done (highest (accepted key past) ∷ min (highest (accepted key past)) 64 ∷ recent (accepted key past) ∷ [])) t
           (rw (absent key, l, shows-it .top, count-right r (accepted key past) shows-it))
           (rw l)
-          (keeps-said k
-          (λ b. by-test (same (keyOf (asks key)) b) (λ h. rw h) (λ h. rw h))
-          (λ b. by-test (same (keyOf (asks key)) b) (λ h. rw h) (λ h. rw h))
-          (λ b. by-test (same (keyOf (asks key)) b) (λ h. rw h) (λ h. rw h)) refl)
+          (keeps-said k (λ b. by-test (same (keyOf (asks key)) b) (λ h. rw h) (λ h. rw h)) refl)
 
     sends-rightly : Rightly t past (sends key)
     unfolding answered right sent sending

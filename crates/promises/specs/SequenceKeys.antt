@@ -1,14 +1,13 @@
 -- What a call leaves of its own key and of others, whatever words the table has: a new life, other keys, the lent record, refusals.
-use Prim.Native.Nat.{ℕ, _+_, _-_, _≤_, _<_}
+use Prim.Native.Nat.{ℕ, _+_, _*_, _≤_, _<_}
 use mathlib.Core.Path.{_≡_, refl, sym, ap, _∙_}
-use mathlib.Core.Bool.{Bool, true, false, not}
+use mathlib.Core.Bool.{Bool, false, not}
 use mathlib.Core.List.{List, [], _∷_}
 use native.Mathlib.Omega.{arith}
 use borrow.Author.Tests.{lt-leb, leb-false, ltb-false}
 use lib.ListN.{length}
 use lib.Dec.{leb, ltb}
 use lib.Count.{ones}
-use Rattle.wire.specs.Tests.{if_then_else_}
 use Rattle.wire.proofs.Tests.{never, clash, by-test}
 use Rattle.receive.specs.declared.Verdict.{Verdict}
 use Rattle.receive.specs.declared.Judged.{Judged}
@@ -21,7 +20,7 @@ use Rattle.sequence.specs.declared.table.Outcome.the-variants as O
 use Rattle.sequence.proofs.Laws as L
 use Rattle.receive.specs.Receive.{fresh, judged, answer}
 use Rattle.packets.specs.Packets.{known, read}
-use Rattle.sequence.specs.Table.{find, free, entryAt, putEntry, putKey, newEntry, added, removed, judgedAt, packetRead, packet, handedOut, sent, loss, outcome, sending, counted}
+use Rattle.sequence.specs.Table.{rooms, words, find, free, entryAt, putEntry, putKey, newEntry, added, removed, judgedAt, packetRead, packet, handedOut, sent, loss, outcome, sending, counted}
 use Rattle.wire.specs.Answer.{done}
 use Rattle.promises.specs.History.{Call, adds, removes, shows, sends, asks, isDone, keyRead, keyOf, isAdding, Carries, no-more, next, tableVerdicts, lentVerdicts, rightNumber, answered}
 use Rattle.promises.specs.SequenceRecord.{one-step, starts, judged-refused}
@@ -29,29 +28,29 @@ use Rattle.promises.specs.SequenceTable.{begun, Apart, apart-entry, apar
 
 -- ---- a new life starts empty, whatever words the table had
 
-module _ (t u : List ℕ) (key : Key) (long : length t ≡ 384) where
-  abbrev Begun : Type 0
-  Begun = (u ≡ begun t key) × ((64 ≤ find t key) × (free t < 64))
+-- adding is refused, or begins a life in a free room
+by-adding : (t : List ℕ) (key : Key) (A : Outcome × List ℕ → Type 0) → ((n : ℕ) → A (O.Refused n, t)) → (rooms ≤ find t key → free t < rooms → A (O.Done, begun t key)) → A (added t key)
+unfolding added
+by-adding t key A refused begins-it =
+    by-test (not (known (key .protocol))) (λ e1. rw e1 (refused 10))
+    (λ e1.
+    by-test (ltb (key .spi) 256) (λ e2. rw (e1, e2) (refused 11))
+    (λ e2.
+    by-test (ltb (find t key) rooms) (λ e3. rw (e1, e2, e3) (refused 8200))
+    (λ e3.
+    by-test (leb rooms (free t)) (λ e4. rw (e1, e2, e3, e4) (refused 8199)) (λ e4. rw (e1, e2, e3, e4) (begins-it (ltb-false (find t key) rooms e3) (leb-false rooms (free t) e4))))))
 
-  not-done : (n : ℕ) → _≡_ {A = Outcome × List ℕ} (O.Refused n, t) (O.Done, u) → Begun
-  not-done n h = let e : O.Refused n ≡ O.Done = ap (λ (p : Outcome × List ℕ). p .0) h in never (cc)
+module _ (t u : List ℕ) (key : Key) (long : length t ≡ rooms * words) where
+  abbrev Begun : Type 0
+  Begun = (u ≡ begun t key) × ((rooms ≤ find t key) × (free t < rooms))
 
   adding-done : added t key ≡ (O.Done, u) → Begun
-  unfolding added
   adding-done =
-      of (known (key .protocol)) (ltb (key .spi) 256) (ltb (find t key) 64) (leb 64 (free t)) refl refl
-    where
-      of : (a b c d : Bool) → ltb (find t key) 64 ≡ c → leb 64 (free t) ≡ d →
-          _≡_ {A = Outcome × List ℕ} (if not a then (O.Refused 10, t) else if b then (O.Refused 11, t) else if c then (O.Refused 8200, t) else if d then (O.Refused 8199, t) else (O.Done, begun t key)) (O.Done, u) →
-          Begun
-      of false b c d ec ed h = not-done 10 h
-      of true true c d ec ed h = not-done 11 h
-      of true false true d ec ed h = not-done 8200 h
-      of true false false true ec ed h = not-done 8199 h
-      of true false false false ec ed h = (sym (ap (λ (p : Outcome × List ℕ). p .1) h), (ltb-false (find t key) 64 ec, leb-false 64 (free t) ed))
+      by-adding t key (λ x. x ≡ (O.Done, u) → Begun) (λ n h. let e : O.Refused n ≡ O.Done = ap (λ (p : Outcome × List ℕ). p .0) h in never (cc))
+      (λ a f h. (sym (ap (λ (p : Outcome × List ℕ). p .1) h), (a, f)))
 
   module _ (adding : added t key ≡ (O.Done, u)) where
-    new-room : find u key < 64
+    new-room : find u key < rooms
     new-room =
         let b = adding-done adding in
         let at : find u key ≡ free t = rw (b .0) (own-room t key long (b .1 .0) (b .1 .1)) in
@@ -62,60 +61,48 @@ module _ (t u : List ℕ) (key : Key) (long : length t ≡ 384) where
 
     pub new-loss : answered u (asks key) .0 ≡ done (0 ∷ 0 ∷ 0 ∷ [])
     unfolding answered loss counted ones
-    new-loss = rw (lt-leb 64 (find u key) new-room, new-entry)
+    new-loss = rw (lt-leb rooms (find u key) new-room, new-entry)
 
     pub new-sending : answered u (sends key) .0 ≡ done (1 ∷ [])
     unfolding answered sent handedOut sending
-    new-sending = rw (lt-leb 64 (find u key) new-room, new-entry)
+    new-sending = rw (lt-leb rooms (find u key) new-room, new-entry)
 
     pub new-packet : (whole : Bool) (s : List ℕ) (number : ℕ) → read (key .protocol) s ≡ Read (key .spi) number →
         answered u (shows (key .destination) (key .protocol) whole s) .0 ≡ rightNumber [] number whole
     unfolding answered packet packetRead judgedAt
-    new-packet whole s number is = rw (is, lt-leb 64 (find u key) new-room, new-entry) (one-step fresh [] starts number whole .0)
+    new-packet whole s number is = rw (is, lt-leb rooms (find u key) new-room, new-entry) (one-step fresh [] starts number whole .0)
 
 -- ---- a call on one key changes nothing that can be asked of another
 
 apart-none : (t : List ℕ) (b : Key) → Apart t t b
 apart-none t b = record { found = refl; entry = refl }
 
-module _ (t : List ℕ) (long : length t ≡ 384) (b : Key) where
+module _ (t : List ℕ) (long : length t ≡ rooms * words) (b : Key) where
   apart-packet : (destination protocol : ℕ) (whole : Bool) (p : Packet) → (keyRead destination protocol p ≡ b → ⊥) → Apart t (packetRead t destination protocol whole p .1) b
   unfolding packetRead judgedAt
   apart-packet destination protocol whole (Refused number) d = apart-none t b
   apart-packet destination protocol whole (Read spi number) d =
       let key : Key = record { destination = destination; protocol = protocol; spi = spi } in
       let e : Entry = entryAt t (find t key) in
-      by-test (leb 64 (find t key))
+      by-test (leb rooms (find t key))
       (λ h. rw h (apart-none t b))
-      (λ h. rw h (apart-entry t key b d (record { receive = judged (e .receive) number whole .receive; sent = e .sent }) (leb-false 64 (find t key) h)))
+      (λ h. rw h (apart-entry t key b d (record { receive = judged (e .receive) number whole .receive; sent = e .sent }) (leb-false rooms (find t key) h)))
 
   apart-call : (c : Call) → (keyOf c ≡ b → ⊥) → Apart t (answered t c .1) b
   unfolding answered keyOf added removed packet sent handedOut
-  apart-call (adds key) d =
-      by-test (known (key .protocol))
-      (λ e1.
-      by-test (ltb (key .spi) 256)
-      (λ e2. rw (e1, e2) (apart-none t b))
-      (λ e2.
-      by-test (ltb (find t key) 64)
-      (λ e3. rw (e1, e2, e3) (apart-none t b))
-      (λ e3.
-      by-test (leb 64 (free t))
-      (λ e4. rw (e1, e2, e3, e4) (apart-none t b))
-      (λ e4. rw (e1, e2, e3, e4) (apart-added t key b d long (leb-false 64 (free t) e4))))))
-      (λ e1. rw e1 (apart-none t b))
+  apart-call (adds key) d = by-adding t key (λ x. Apart t (x .1) b) (λ n. apart-none t b) (λ a f. apart-added t key b d long f)
   apart-call (removes key) d =
-      by-test (leb 64 (find t key))
+      by-test (leb rooms (find t key))
       (λ e. rw e (apart-none t b))
-      (λ e. rw e (apart-removed t key b d long (leb-false 64 (find t key) e)))
+      (λ e. rw e (apart-removed t key b d long (leb-false rooms (find t key) e)))
   apart-call (shows destination protocol whole s) d = apart-packet destination protocol whole (read protocol s) d
   apart-call (sends key) d =
-      by-test (leb 64 (find t key))
+      by-test (leb rooms (find t key))
       (λ e. rw e (apart-none t b))
       (λ e.
       by-test (leb 4294967295 (entryAt t (find t key) .sent))
       (λ f. rw (e, f) (apart-none t b))
-      (λ f. rw (e, f) (apart-entry t key b d (record { receive = entryAt t (find t key) .receive; sent = entryAt t (find t key) .sent + 1 }) (leb-false 64 (find t key) e))))
+      (λ f. rw (e, f) (apart-entry t key b d (record { receive = entryAt t (find t key) .receive; sent = entryAt t (find t key) .sent + 1 }) (leb-false rooms (find t key) e))))
   apart-call (asks key) d = apart-none t b
 
 -- what is asked of a key whose life is the same is answered the same
@@ -126,17 +113,17 @@ module _ (t u : List ℕ) where
   same-packet destination protocol whole (Refused number) a = refl
   same-packet destination protocol whole (Read spi number) a =
       let key : Key = record { destination = destination; protocol = protocol; spi = spi } in
-      by-test (leb 64 (find t key))
+      by-test (leb rooms (find t key))
       (λ h. rw (a .found, h))
       (λ h. rw (a .entry, a .found, h))
 
   same-answer : (c : Call) → isAdding c ≡ false → Apart t u (keyOf c) → answered u c .0 ≡ answered t c .0
   unfolding answered keyOf removed packet sent handedOut loss
   same-answer (adds key) h a = clash (sym h)
-  same-answer (removes key) h a = by-test (leb 64 (find t key)) (λ e. rw (a .found, e)) (λ e. rw (a .found, e))
+  same-answer (removes key) h a = by-test (leb rooms (find t key)) (λ e. rw (a .found, e)) (λ e. rw (a .found, e))
   same-answer (shows destination protocol whole s) h a = ap answer (same-packet destination protocol whole (read protocol s) a)
   same-answer (sends key) h a =
-      by-test (leb 64 (find t key))
+      by-test (leb rooms (find t key))
       (λ e. rw (a .found, e))
       (λ e.
       by-test (leb 4294967295 (entryAt t (find t key) .sent))
@@ -146,20 +133,20 @@ module _ (t u : List ℕ) where
 
 -- A call on one key changes nothing that can be asked of another, whatever words the table has. (Adding another key may find the table
 -- full: that is asked of the table.)
-pub other-keys : (t : List ℕ) → length t ≡ 384 → (c asked : Call) → (keyOf c ≡ keyOf asked → ⊥) → isAdding asked ≡ false →
+pub other-keys : (t : List ℕ) → length t ≡ rooms * words → (c asked : Call) → (keyOf c ≡ keyOf asked → ⊥) → isAdding asked ≡ false →
     answered (answered t c .1) asked .0 ≡ answered t asked .0
 other-keys t long c asked d h = same-answer t (answered t c .1) asked h (apart-call t long (keyOf asked) c d)
 
 -- ---- the lent record and the table
 
-packet-at : (t : List ℕ) (key : Key) (whole : Bool) (s : List ℕ) (number : ℕ) → find t key < 64 → read (key .protocol) s ≡ Read (key .spi) number →
+packet-at : (t : List ℕ) (key : Key) (whole : Bool) (s : List ℕ) (number : ℕ) → find t key < rooms → read (key .protocol) s ≡ Read (key .spi) number →
     packet t (key .destination) (key .protocol) whole s ≡ judgedAt t (find t key) (judged (entryAt t (find t key) .receive) number whole)
 unfolding packet packetRead
-packet-at t key whole s number here is = rw (is, lt-leb 64 (find t key) here)
+packet-at t key whole s number here is = rw (is, lt-leb rooms (find t key) here)
 
 -- From any life on, the lent record and the table give the same verdicts.
 pub lent-same : (key : Key) (packets : List (Bool × List ℕ)) (numbers : List (Bool × ℕ)) → Carries key packets numbers →
-    (t : List ℕ) → length t ≡ 384 → find t key < 64 → tableVerdicts t key packets ≡ lentVerdicts (entryAt t (find t key) .receive) numbers
+    (t : List ℕ) → length t ≡ rooms * words → find t key < rooms → tableVerdicts t key packets ≡ lentVerdicts (entryAt t (find t key) .receive) numbers
 unfolding tableVerdicts lentVerdicts judgedAt
 lent-same key packets numbers no-more t long here = refl
 lent-same key packets numbers (next {whole = whole} {s = s} {number = number} {packets = ps} {numbers = ns} is more) t long here =
@@ -172,10 +159,10 @@ lent-same key packets numbers (next {whole = whole} {s = s} {number = number} {p
 
 -- From a life's beginning: a table in which the key was just added, and a fresh lent record.
 pub lent-from-fresh : (key : Key) (packets : List (Bool × List ℕ)) (numbers : List (Bool × ℕ)) → Carries key packets numbers →
-    (t u : List ℕ) → length t ≡ 384 → added t key ≡ (O.Done, u) → tableVerdicts u key packets ≡ lentVerdicts fresh numbers
+    (t u : List ℕ) → length t ≡ rooms * words → added t key ≡ (O.Done, u) → tableVerdicts u key packets ≡ lentVerdicts fresh numbers
 lent-from-fresh key packets numbers c t u long adding =
     let b = adding-done t u key long adding in
-    let wide : length u ≡ 384 =
+    let wide : length u ≡ rooms * words =
     ap length (b .0) ∙ L.length-putEntry (putKey t (free t) key) (free t) newEntry ∙ L.length-putKey t (free t) key ∙ long in
     lent-same key packets numbers c u wide (new-room t u key long adding) ∙ rw (new-entry t u key long adding)
 
@@ -188,30 +175,18 @@ module _ (t : List ℕ) where
   unchanged-packet destination protocol whole (Refused number) h = refl
   unchanged-packet destination protocol whole (Read spi number) h =
       let key : Key = record { destination = destination; protocol = protocol; spi = spi } in
-      by-test (leb 64 (find t key))
+      by-test (leb rooms (find t key))
       (λ e. rw e)
       (λ e. rw (e, judged-refused (entryAt t (find t key) .receive) number whole (rw e at h)) (L.put-back t (find t key)))
 
   -- A refusal changes nothing.
   pub refused-nothing : (c : Call) → isDone (answered t c .0) ≡ false → answered t c .1 ≡ t
   unfolding answered added removed packet sent handedOut outcome sending
-  refused-nothing (adds key) h =
-      by-test (known (key .protocol))
-      (λ e1.
-      by-test (ltb (key .spi) 256)
-      (λ e2. rw (e1, e2))
-      (λ e2.
-      by-test (ltb (find t key) 64)
-      (λ e3. rw (e1, e2, e3))
-      (λ e3.
-      by-test (leb 64 (free t))
-      (λ e4. rw (e1, e2, e3, e4))
-      (λ e4. clash (sym (rw (e1, e2, e3, e4) at h))))))
-      (λ e1. rw e1)
-  refused-nothing (removes key) h = by-test (leb 64 (find t key)) (λ e. rw e) (λ e. clash (sym (rw e at h)))
+  refused-nothing (adds key) h = by-adding t key (λ x. isDone (outcome (x .0)) ≡ false → x .1 ≡ t) (λ n g. refl) (λ a f g. clash (sym g)) h
+  refused-nothing (removes key) h = by-test (leb rooms (find t key)) (λ e. rw e) (λ e. clash (sym (rw e at h)))
   refused-nothing (shows destination protocol whole s) h = unchanged-packet destination protocol whole (read protocol s) h
   refused-nothing (sends key) h =
-      by-test (leb 64 (find t key))
+      by-test (leb rooms (find t key))
       (λ e. rw e)
       (λ e. by-test (leb 4294967295 (entryAt t (find t key) .sent)) (λ f. rw (e, f)) (λ f. clash (sym (rw (e, f) at h))))
   refused-nothing (asks key) h = refl

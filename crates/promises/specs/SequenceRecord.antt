@@ -2,7 +2,7 @@
 -- them again afterwards, and the ones in its window are the count over them.
 use Prim.Native.Nat.{ℕ, zero, suc, _+_, _-_, _*_, _/_, _%_, _^_, _≤_, _<_, min, max}
 use mathlib.Core.Path.{_≡_, refl, sym, ap, ap₂, _∙_}
-use mathlib.Core.Bool.{Bool, true, false, not, _||_}
+use mathlib.Core.Bool.{Bool, true, false, _||_}
 use mathlib.Core.List.{List, [], _∷_}
 use native.Mathlib.Nat.{mod-lt, zero-div, mod-eq-of-lt, add-zero, add-suc}
 use native.Mathlib.Omega.{arith}
@@ -11,11 +11,9 @@ use lib.Dec.{eqb, leb, ltb, lit<}
 use lib.Pow.{pow-pos, mod-pow-add}
 use lib.Count.{ones, ones-cat}
 use Rattle.wire.specs.Tests.{if_then_else_}
-use Rattle.wire.specs.Answer.{Answer, refused, done}
+use Rattle.wire.specs.Answer.{Answer}
 use Rattle.wire.proofs.Tests.{clash, neither, by-test}
 use Rattle.receive.specs.declared.Receive.{Receive}
-use Rattle.receive.specs.declared.Judged.{Judged}
-use Rattle.receive.specs.declared.Verdict.the-variants.{Accepted, Refused}
 use Rattle.receive.specs.Receive.{fresh, bit, behind, acceptedBefore, shifted, taken, judged, answer}
 use Rattle.receive.proofs.Bits.{set-lt, set-same, set-other, shl-low, shl-high}
 use Rattle.promises.specs.History.{isDone, highest, member, one, sum, recent, rightNumber}
@@ -125,49 +123,23 @@ module _ (r : Receive) (h : List ℕ) (s : Shows r h) (n : ℕ) where
 abbrev pub after : Answer → ℕ → List ℕ → List ℕ
 after a n h = if isDone a then n ∷ h else h
 
-abbrev judging : Bool → Bool → Bool → Receive → Receive → Judged
-judging b again whole r q =
-    if b then record { receive = r; verdict = Refused 8197 }
-    else if again then record { receive = r; verdict = Refused 8194 }
-    else if not whole then record { receive = r; verdict = Refused 24 }
-    else record { receive = q; verdict = Accepted }
-
-abbrev ruling : Bool → Bool → Bool → Answer
-ruling b again whole =
-    if b then refused 8197
-    else if again then refused 8194
-    else if not whole then refused 24
-    else done (1 ∷ [])
-
-settled : (b again again′ whole : Bool) (r q : Receive) (n : ℕ) (h : List ℕ) → (b ≡ false → again ≡ again′) → Shows r h
-    → (b ≡ false → again′ ≡ false → Shows q (n ∷ h))
-    → (answer (judging b again whole r q .verdict) ≡ ruling b again′ whole) × Shows (judging b again whole r q .receive) (after (ruling b again′ whole) n h)
-unfolding answer
-settled true again again′ whole r q n h e s f = (refl, s)
-settled false true true whole r q n h e s f = (refl, s)
-settled false true false whole r q n h e s f = clash (sym (e refl))
-settled false false true whole r q n h e s f = clash (e refl)
-settled false false false true r q n h e s f = (refl, f refl refl)
-settled false false false false r q n h e s f = (refl, s)
-
 -- a refusal leaves the record as it is
 pub judged-refused : (r : Receive) (n : ℕ) (whole : Bool) → isDone (answer (judged r n whole .verdict)) ≡ false → judged r n whole .receive ≡ r
 unfolding judged answer
-judged-refused r n whole = of (behind (r .highest) n) (acceptedBefore r n) whole
-  where
-    of : (b again whole : Bool) → isDone (answer (judging b again whole r (taken r n) .verdict)) ≡ false → judging b again whole r (taken r n) .receive ≡ r
-    of true again whole h = refl
-    of false true whole h = refl
-    of false false true h = clash (sym h)
-    of false false false h = refl
+judged-refused r n whole h =
+    by-test (behind (r .highest) n) (λ b. rw b)
+    (λ b. by-test (acceptedBefore r n) (λ again. rw (b, again)) (λ again. by-test whole (λ w. clash (sym (rw (b, again, w) at h))) (λ w. rw (b, again, w))))
 
 pub one-step : (r : Receive) (h : List ℕ) → Shows r h → (n : ℕ) (whole : Bool)
     → (answer (judged r n whole .verdict) ≡ rightNumber h n whole) × Shows (judged r n whole .receive) (after (rightNumber h n whole) n h)
-unfolding judged rightNumber
+unfolding judged rightNumber answer
 one-step r h s n whole =
-    rw (ap (λ (x : ℕ). behind x n) (s .top))
-    (settled (behind (highest h) n) (acceptedBefore r n) (member n h) whole r (taken r n) n h (before-member r h s n) s
-    (λ e new. takes r h s n (live n (highest h) e .0) (live n (highest h) e .1) new))
+    let top : behind (r .highest) n ≡ behind (highest h) n = ap (λ (x : ℕ). behind x n) (s .top) in
+    by-test (behind (highest h) n) (λ b. rw (top, b) (refl, s))
+    (λ b.
+    let again = before-member r h s n b in
+    by-test (member n h) (λ m. rw (top, b, again, m) (refl, s))
+    (λ m. by-test whole (λ w. rw (top, b, again, m, w) (refl, takes r h s n (live n (highest h) b .0) (live n (highest h) b .1) m)) (λ w. rw (top, b, again, m, w) (refl, s))))
 
 pub starts : Shows fresh []
 starts = record { top = refl; fits = lit< tt; bits = λ k l. zero-bit k; no-zero = refl }

@@ -1,6 +1,6 @@
 -- Runs of calls from an empty table: the answers are the right ones, and what is right keeps the accepted numbers distinct and the numbers
 -- for sending counting.
-use Prim.Native.Nat.{ℕ, zero, suc, _+_, _-_, _<_}
+use Prim.Native.Nat.{ℕ, zero, suc, _+_, _<_}
 use mathlib.Core.Path.{_≡_, refl, sym, ap, ap₂, _∙_}
 use mathlib.Core.Bool.{Bool, true, false, not, _||_}
 use mathlib.Core.List.{List, [], _∷_}
@@ -17,7 +17,7 @@ use Rattle.receive.specs.Receive.{answer}
 use Rattle.packets.specs.Packets.{read}
 use Rattle.sequence.specs.Table.{empty}
 use Rattle.wire.specs.Answer.{refused, done}
-use Rattle.promises.specs.History.{Call, adds, removes, shows, sends, asks, Event, isDone, same, keyRead, numberRead, keyOf, Distinct, countdown, Deed, begins, ends, accepts, hands, none, deed, lives, accepted, acceptedAfter, handed, handedAfter, highest, member, rightNumber, rightPacket, right, answered, answeredAll, rightAll}
+use Rattle.promises.specs.History.{Call, adds, removes, shows, sends, asks, Event, isDone, same, keyRead, numberRead, keyOf, Distinct, countdown, Deed, begins, ends, accepts, hands, none, deed, deedFor, lives, accepted, acceptedAfter, handed, handedAfter, highest, member, rightNumber, rightPacket, right, answered, answeredAll, rightAll}
 use Rattle.promises.specs.SequenceTable.{same-true}
 use Rattle.promises.specs.SequenceCalls.{Keeping, unread, call-rightly, keeps-nothing}
 
@@ -31,6 +31,19 @@ answers-agree (c ∷ calls) t past k = let q = call-rightly t past k c in rw (q 
 -- For every sequence of calls from an empty table, every answer is the one worked out afresh from the list of what came before.
 pub answers-right : (calls : List Call) → answeredAll empty [] calls ≡ rightAll [] calls
 answers-right calls = answers-agree calls empty [] keeps-nothing
+
+-- what each right answer keeps, a run keeps
+all-keep : (P : List Event → Type 0) → ((past : List Event) (c : Call) → P past → P (record { call = c; answer = right past c } ∷ past)) →
+    (calls : List Call) (past : List Event) → P past → P (rightAll past calls)
+unfolding rightAll
+all-keep P f [] past h = h
+all-keep P f (c ∷ calls) past h = all-keep P f calls (record { call = c; answer = right past c } ∷ past) (f past c h)
+
+-- a right answer is nothing to the key, or a deed of a call of its own that is done
+by-deed : (past : List Event) (key : Key) (c : Call) (A : Deed → Type 0) → A none → (isDone (right past c) ≡ true → keyOf c ≡ key → A (deed c (right past c))) →
+    A (deedFor key (record { call = c; answer = right past c }))
+by-deed past key c A nothing its =
+    by-test (isDone (right past c)) (λ h. by-test (same (keyOf c) key) (λ e. rw (h, e) (its h (same-true (keyOf c) key e))) (λ e. rw (h, e) nothing)) (λ h. rw h nothing)
 
 -- ---- once only
 
@@ -77,23 +90,12 @@ module _ (past : List Event) (key : Key) (distinct : Distinct (accepted key past
 
   stays-distinct : (c : Call) → Distinct (accepted key (record { call = c; answer = right past c } ∷ past))
   unfolding accepted
-  stays-distinct c =
-      by-test (isDone (right past c))
-      (λ h.
-      by-test (same (keyOf c) key)
-      (λ e. rw (h, e) (kept-distinct (deed c (right past c)) (right-new c h (same-true (keyOf c) key e))))
-      (λ e. rw (h, e) distinct))
-      (λ h. rw h distinct)
-
-all-distinct : (calls : List Call) (past : List Event) → ((key : Key) → Distinct (accepted key past)) → (key : Key) → Distinct (accepted key (rightAll past calls))
-unfolding rightAll
-all-distinct [] past h key = h key
-all-distinct (c ∷ calls) past h key = all-distinct calls (record { call = c; answer = right past c } ∷ past) (λ b. stays-distinct past b (h b) c) key
+  stays-distinct c = by-deed past key c (λ d. Distinct (acceptedAfter d (accepted key past))) distinct (λ h e. kept-distinct (deed c (right past c)) (right-new c h e))
 
 -- No sequence number is accepted twice in one life of an SA.
 pub once-only : (calls : List Call) (key : Key) → Distinct (accepted key (answeredAll empty [] calls))
 unfolding accepted
-once-only calls key = rw (answers-right calls) (all-distinct calls [] (λ b. tt) key)
+once-only calls key = rw (answers-right calls) (all-keep (λ past. Distinct (accepted key past)) (λ past c h. stays-distinct past key h c) calls [] tt)
 
 -- ---- sending
 
@@ -129,23 +131,13 @@ module _ (past : List Event) (key : Key) (counting : handed key past ≡ countdo
   stays-counting : (c : Call) → handed key (record { call = c; answer = right past c } ∷ past) ≡ countdown (length (handed key (record { call = c; answer = right past c } ∷ past)))
   unfolding handed
   stays-counting c =
-      by-test (isDone (right past c))
-      (λ h.
-      by-test (same (keyOf c) key)
-      (λ e. rw (h, e) (kept-counting (deed c (right past c)) (right-hands c h (same-true (keyOf c) key e))))
-      (λ e. rw (h, e) counting))
-      (λ h. rw h counting)
-
-all-counting : (calls : List Call) (past : List Event) → ((key : Key) → handed key past ≡ countdown (length (handed key past))) →
-    (key : Key) → handed key (rightAll past calls) ≡ countdown (length (handed key (rightAll past calls)))
-unfolding rightAll
-all-counting [] past h key = h key
-all-counting (c ∷ calls) past h key = all-counting calls (record { call = c; answer = right past c } ∷ past) (λ b. stays-counting past b (h b) c) key
+      by-deed past key c (λ d. handedAfter d (handed key past) ≡ countdown (length (handedAfter d (handed key past)))) counting (λ h e. kept-counting (deed c (right past c)) (right-hands c h e))
 
 -- The numbers handed out for sending in one life are 1, 2, 3, ..
 pub sending-counts : (calls : List Call) (key : Key) → handed key (answeredAll empty [] calls) ≡ countdown (length (handed key (answeredAll empty [] calls)))
 unfolding handed countdown
-sending-counts calls key = rw (answers-right calls) (all-counting calls [] (λ b. refl) key)
+sending-counts calls key =
+    rw (answers-right calls) (all-keep (λ past. handed key past ≡ countdown (length (handed key past))) (λ past c h. stays-counting past key h c) calls [] refl)
 
 countdown-below : (m n : ℕ) → n < m → member m (countdown n) ≡ false
 unfolding countdown
