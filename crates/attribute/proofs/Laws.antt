@@ -35,12 +35,12 @@ allThere k (w ∷ ws) s = leb 4 (length (find k w s)) && allThere k ws s
 -- ---- one attribute
 
 -- a lawful attribute lies within its part
-record Sound (exchange : ℕ) (s : List ℕ) : Type 0 where
-  within : attributeSize s ≤ length s
-  fixed : fixedWrong exchange s ≡ false
-  duration : durationWrong exchange s ≡ false
+pub record Sound (exchange : ℕ) (s : List ℕ) : Type 0 where
+  pub within : attributeSize s ≤ length s
+  pub fixed : fixedWrong exchange s ≡ false
+  pub duration : durationWrong exchange s ≡ false
 
-sound : (exchange : ℕ) (before s : List ℕ) → attributeCode exchange before s ≡ 0 → Sound exchange s
+pub sound : (exchange : ℕ) (before s : List ℕ) → attributeCode exchange before s ≡ 0 → Sound exchange s
 unfolding attributeCode outOfBounds
 sound exchange before s h =
     let inside = passed (outOfBounds s) 15 _ (λ z. omega arith) h in
@@ -52,10 +52,6 @@ sound exchange before s h =
       fixed = fixed .0;
       duration = duration .0;
     }
-
-size-at-least : (s : List ℕ) → 4 ≤ attributeSize s
-unfolding attributeSize
-size-at-least s = by-test (sentFixed s) (λ e. rw e (omega arith)) (λ e. rw e (omega arith))
 
 size-fixed : (s : List ℕ) → sentFixed s ≡ true → attributeSize s ≤ 8
 unfolding attributeSize

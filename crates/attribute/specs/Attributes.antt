@@ -1,7 +1,7 @@
 -- The attributes of a transform, document 01, "SA payload". s begins at an attribute: type (2 bytes), then a value or a length and a value.
 use Prim.Native.Nat.{ℕ, zero, suc, min, _+_, _%_}
 use mathlib.Core.List.{List, [], _++_}
-use mathlib.Core.Bool.{Bool, true, false, not, _||_, _&&_}
+use mathlib.Core.Bool.{Bool, not, _||_, _&&_}
 use lib.ListN.{length, getD, take, drop}
 use lib.Dec.{ltb, leb, eqb}
 use Rattle.wire.specs.Wire.{numberAt}

@@ -1,4 +1,3 @@
-use borrow.Author.Needs.{needs}
 use Rattle.attribute.specs.Attributes.{isDuration}
 use Rattle.attribute.proofs.is_duration.Statement.{statement}
 use Rattle.attribute.proofs.is_duration.Tie as tie

@@ -1,4 +1,3 @@
-use borrow.Author.Needs.{needs}
 use Rattle.attribute.specs.Attributes.{mustBeFixed}
 use Rattle.attribute.proofs.must_be_fixed.Statement.{statement}
 use Rattle.attribute.proofs.must_be_fixed.Tie as tie
