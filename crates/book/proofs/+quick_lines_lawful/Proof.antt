@@ -4,41 +4,31 @@ use Rattle.book.proofs.BookWays.{quick-none, quick-more}
 use Prim.Native.Nat.{ℕ, _<_}
 use borrow.Fn.Kinds.{In}
 use borrow.Fn.PlainCycle.{Measures, is, falls, and}
-use Rattle.book.proofs.quick_lines_lawful.Reads as quick-lines-lawful
-use Rattle.book.proofs.quick_lines_lawful.Kinds as quick-lines-lawful-kinds
-use Rattle.book.proofs.+quick_lines_lawful.Lts-quick_lines_lawful as quick-lines-lawful-lts
+use Rattle.book.proofs.quick_lines_lawful.Reads as own
+use Rattle.book.proofs.quick_lines_lawful.Kinds as kinds
+use Rattle.book.proofs.+quick_lines_lawful.Lts-quick_lines_lawful as walk
 use Rattle.book.proofs.quick_line_lawful.Reads as quick-line-lawful-reads
 use Rattle.book.proofs.+quick_lines_lawful.{statement}
 use Rattle.book.proofs.+quick_lines_lawful.Tie.{close}
 
-abbrev μ-quick-lines-lawful : Measures 1 quick-lines-lawful-kinds.ps ℕ
-μ-quick-lines-lawful κs a = a .0
+abbrev measure : Measures 1 kinds.ps ℕ
+measure κs a = a .0
 
-abbrev quick-lines-lawful-at : ℕ → In 1 quick-lines-lawful-kinds.ps
-quick-lines-lawful-at t =
-    and
-    1
-    quick-lines-lawful-kinds.ps
-    (is 1 quick-lines-lawful-kinds.ps μ-quick-lines-lawful t)
-    quick-lines-lawful.Pre
+abbrev here : ℕ → In 1 kinds.ps
+here t = and 1 kinds.ps (is 1 kinds.ps measure t) own.Pre
 
-abbrev quick-lines-lawful-below : ℕ → In 1 quick-lines-lawful-kinds.ps
-quick-lines-lawful-below t =
-    and
-    1
-    quick-lines-lawful-kinds.ps
-    (falls 1 quick-lines-lawful-kinds.ps _<_ μ-quick-lines-lawful t)
-    quick-lines-lawful.Pre
+abbrev below : ℕ → In 1 kinds.ps
+below t = and 1 kinds.ps (falls 1 kinds.ps _<_ measure t) own.Pre
 
 pub +quick-lines-lawful-spec : {M : Type 1} → statement M
-+quick-lines-lawful-spec = close μ-quick-lines-lawful λ t. quick-lines-lawful-lts.spec (
-  quick-lines-lawful-below t,
-  quick-lines-lawful.Post,
++quick-lines-lawful-spec = close measure λ t. walk.spec (
+  below t,
+  own.Post,
   quick-line-lawful-reads.Asked,
   quick-line-lawful-reads.Learnt,
 )
-    (quick-lines-lawful-at t)
-    quick-lines-lawful.Post
+    (here t)
+    own.Post
     (λ c. search quick-none)
     (λ c. search needs)
     (λ c κs. (omega arith, tt))
