@@ -1,34 +1,27 @@
 -- What holds of every element and every list of elements.
-use Prim.Native.Nat.{ℕ, zero, suc, _+_, _-_, _≤_, _<_}
-use mathlib.Core.Path.{_≡_, refl, sym, _∙_, ap}
+use Prim.Native.Nat.{ℕ, zero, suc, _+_, _≤_}
+use mathlib.Core.Path.{_≡_, sym, _∙_, ap}
 use mathlib.Core.List.{List}
-use mathlib.Core.Bool.{Bool, true, false, not, _||_, _&&_}
+use mathlib.Core.Bool.{Bool, true, not, _||_, _&&_}
 use native.Mathlib.Omega.{arith}
-use lib.ListN.{length, getD, take, drop, length-drop}
-use lib.Dec.{ltb, leb, eqb}
+use lib.ListN.{length, drop, length-drop}
+use lib.Dec.{ltb, eqb}
 use borrow.Author.Tests.{ne-eqb, eq-eqb, eqb-true, eqb-false, ltb-false}
-use Rattle.wire.specs.Tests.{if_then_else_}
 use Rattle.wire.proofs.Tests.{neither, by-test}
 use Rattle.der.specs.Der.{tagWrong, constructed, headSize, bodySize, contents, size, list, filled, element}
-
--- a value that a test picks has what both choices have
-if-by : (P : ℕ → Type 0) (b : Bool) (x y : ℕ) → (b ≡ true → P x) → (b ≡ false → P y) → P (if b then x else y)
-if-by P true x y f g = f refl
-if-by P false x y f g = g refl
 
 -- an element does not run past the end
 pub size-fits : (s : List ℕ) → size s ≤ length s
 unfolding size
 size-fits s =
-    if-by (λ n. n ≤ length s) (tagWrong s || eqb (headSize s) 0 || ltb (length s) (headSize s + bodySize s)) 0 (headSize s + bodySize s)
-    (λ w. omega arith)
-    (λ w. ltb-false (length s) (headSize s + bodySize s) (neither (tagWrong s || eqb (headSize s) 0) (ltb (length s) (headSize s + bodySize s)) w .1))
+    by-test (tagWrong s || eqb (headSize s) 0 || ltb (length s) (headSize s + bodySize s)) (λ w. rw w (omega arith))
+    (λ w. rw w (ltb-false (length s) (headSize s + bodySize s) (neither (tagWrong s || eqb (headSize s) 0) (ltb (length s) (headSize s + bodySize s)) w .1)))
 
 pub element-fits : (levels : ℕ) (s : List ℕ) → element levels s ≤ length s
 unfolding element
 element-fits zero s = omega arith
 element-fits (suc levels) s =
-    if-by (λ n. n ≤ length s) (constructed s && not (filled (element levels) (contents s))) 0 (size s) (λ w. omega arith) (λ w. size-fits s)
+    by-test (constructed s && not (filled (element levels) (contents s))) (λ w. rw w (omega arith)) (λ w. rw w (size-fits s))
 
 -- how many elements are allowed does not matter once each byte could be one
 module _ (e : List ℕ → ℕ) where
