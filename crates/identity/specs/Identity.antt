@@ -1,7 +1,7 @@
 -- The body of an identification payload, document 01, "Identities": "Type, protocol, port (1, 1, 2 bytes), then data".
 use Prim.Native.Nat.{ℕ}
 use mathlib.Core.List.{List}
-use mathlib.Core.Bool.{Bool, true, false, not, _||_, _&&_}
+use mathlib.Core.Bool.{Bool, false, _||_, _&&_}
 use lib.ListN.{length, getD, drop}
 use lib.Dec.{leb, eqb}
 use Rattle.wire.specs.Wire.{numberAt}

@@ -1,4 +1,3 @@
-use borrow.Author.Needs.{needs}
 use Rattle.identity.specs.Identity.{quickData}
 use Rattle.identity.proofs.Ways.{no-quick}
 use Rattle.identity.proofs.quick_data.Statement.{statement}
