@@ -8,7 +8,7 @@ use policy::Transforms;
 use wire::after;
 use wire::front;
 
-// The longest book and the longest message: what lies behind them does not count.
+// A byte more than the longest book and the longest message, so that a message that is too long is seen to be.
 const LONGEST: usize = 8275;
 
 fn main() {
