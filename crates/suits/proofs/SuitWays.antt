@@ -91,18 +91,18 @@ module _ (exchange i : ℕ) (book set : List ℕ) (r : Bool) where
     unfolding protocolsSuit
     protocols-both h e = rw (ne-eqb exchange 2 quick, ← ep, ne-eqb protocols 1 h) e
 
--- a set is left at its protocols, or at its first proposal
-module _ (exchange i : ℕ) (book set : List ℕ) (b : Bool) (eb : b ≡ protocolsSuit exchange i book set) where
-  pub set-protocols : not b ≡ true → false ≡ setSuits exchange i book set
+-- a set is left at its first proposal, or at its protocols
+module _ (exchange i : ℕ) (book set : List ℕ) (p : List ℕ) (low : ℕ) (ep : p ≡ proposal 0 set) (el : low ≡ lowest exchange i book p) where
+  pub set-first : low ≡ 0 → false ≡ setSuits exchange i book set
   unfolding setSuits
-  set-protocols h = rw (← eb, was-false b h)
+  set-first h = rw (← ep, ← el, h, and-false)
 
-  module _ (suit : not b ≡ false) (p : List ℕ) (low : ℕ) (ep : p ≡ proposal 0 set) (el : low ≡ lowest exchange i book p) where
-    pub set-first : low ≡ 0 → false ≡ setSuits exchange i book set
+  module _ (some : low ≡ 0 → ⊥) (b : Bool) (eb : b ≡ protocolsSuit exchange i book set) where
+    pub set-protocols : not b ≡ true → false ≡ setSuits exchange i book set
     unfolding setSuits
-    set-first h = rw (← eb, was-true b suit, ← ep, ← el, h)
+    set-protocols h = rw (← eb, was-false b h)
 
-    pub set-rest : (low ≡ 0 → ⊥) → (count : ℕ) (q : List ℕ) (low2 : ℕ) → count ≡ proposalCount set → q ≡ proposal 1 set → low2 ≡ lowest exchange i book q →
+    pub set-rest : not b ≡ false → (count : ℕ) (q : List ℕ) (low2 : ℕ) → count ≡ proposalCount set → q ≡ proposal 1 set → low2 ≡ lowest exchange i book q →
         (eqb count 1 || leb 1 low2) ≡ setSuits exchange i book set
     unfolding setSuits
-    set-rest h count q low2 ec eq el2 = rw (← eb, was-true b suit, ← ep, ← el, le-leb 1 low (omega arith), ← ec, ← eq, ← el2)
+    set-rest suit count q low2 ec eq el2 = rw (← eb, was-true b suit, ← ep, ← el, le-leb 1 low (omega arith), ← ec, ← eq, ← el2)

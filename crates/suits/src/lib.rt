@@ -161,10 +161,11 @@ fn protocols_suit(exchange: u8, i: u8, book: &[u8], set: &[u8]) -> bool
 pub fn set_suits(exchange: u8, i: u8, book: &[u8], set: &[u8]) -> bool
     ensures { λ r. ⌜ r ≡ setSuits exchange i (now (book .entry)) (now (set .entry)) ⌝ }
 {
-    if !protocols_suit(exchange, i, book, set) {
+    // Lines differ most in their seconds, so the first proposal's transforms are asked first.
+    if lowest(exchange, i, book, proposal(0, set)) == 0 {
         return false;
     }
-    if lowest(exchange, i, book, proposal(0, set)) == 0 {
+    if !protocols_suit(exchange, i, book, set) {
         return false;
     }
     (proposal_count(set) == 1) | (1 <= lowest(exchange, i, book, proposal(1, set)))

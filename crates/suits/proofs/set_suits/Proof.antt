@@ -1,4 +1,4 @@
-use Rattle.suits.proofs.SuitWays.{set-protocols, set-first, set-rest}
+use Rattle.suits.proofs.SuitWays.{set-first, set-protocols, set-rest}
 use borrow.Author.Needs.{needs}
 use Rattle.suits.proofs.set_suits.Statement.{statement}
 use Rattle.suits.proofs.set_suits.Tie as tie
@@ -8,10 +8,10 @@ set-suits-spec =
     tie.close
     (tie.spec
     (λ c κs. search needs)
-    (λ c. search set-protocols)
-    (λ c κs. search needs)
     (λ c κs. search needs)
     (λ c. search set-first)
+    (λ c κs. search needs)
+    (λ c. search set-protocols)
     (λ c κs. search needs)
     (λ c κs. search needs)
     (λ c κs. search needs)
