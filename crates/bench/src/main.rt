@@ -3,7 +3,6 @@
 // it does the table of SA entries and the kept buffers of the quick mode ends.
 mod choosing;
 mod element;
-mod ends;
 mod hex;
 mod identification;
 mod integrity;
@@ -15,18 +14,19 @@ mod port;
 mod reading;
 mod replying;
 mod say;
+mod seats;
 mod showing;
 mod stepping;
 mod verbs;
 mod words;
 
-use ends::Kept;
-use ends::Seats;
 use libc::STDIN_FILENO;
 use libc::STDOUT_FILENO;
 use receive::Receive;
 use receive::fresh;
 use say::append;
+use seats::Kept;
+use seats::Seats;
 use sequence::table::Table;
 use wire::after;
 use wire::front;
@@ -83,7 +83,7 @@ fn run(
         said: 0,
         going: true,
         lent: fresh(),
-        ends: ends::absent(),
+        ends: seats::absent(),
     };
     // A proved loop has to end: no run uses this number up.
     let mut turns = u64::MAX;

@@ -1,16 +1,16 @@
 // `state i|r`, `kept i|r` and `nonce i|r BYTES BYTES`: what an end holds, what is kept for it, and the nonce of a message.
 use crate::choosing;
-use crate::ends::Kept;
-use crate::ends::Seats;
-use crate::ends::Who;
-use crate::ends::lent;
-use crate::ends::place;
-use crate::ends::role_of;
-use crate::ends::seat_of;
 use crate::hex;
 use crate::hex::Parted;
 use crate::say;
 use crate::say::append;
+use crate::seats::Kept;
+use crate::seats::Seats;
+use crate::seats::Who;
+use crate::seats::lent;
+use crate::seats::place;
+use crate::seats::role_of;
+use crate::seats::seat_of;
 use crate::words;
 use ends::Agreed;
 use ends::End;

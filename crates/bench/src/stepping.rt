@@ -1,16 +1,6 @@
 // `begin MID ID1 ID2`, `deliver i|r yes|no BYTES` and `tick i|r`: the steps of an end. Every word is read before the end
 // is looked at.
 use crate::State;
-use crate::ends::Kept;
-use crate::ends::Seat;
-use crate::ends::Who;
-use crate::ends::lent;
-use crate::ends::place;
-use crate::ends::role_of;
-use crate::ends::says;
-use crate::ends::seat_of;
-use crate::ends::seated;
-use crate::ends::size;
 use crate::hex;
 use crate::hex::Decoded;
 use crate::hex::Parted;
@@ -20,6 +10,16 @@ use crate::number;
 use crate::number::Number;
 use crate::say;
 use crate::say::append;
+use crate::seats::Kept;
+use crate::seats::Seat;
+use crate::seats::Who;
+use crate::seats::lent;
+use crate::seats::place;
+use crate::seats::role_of;
+use crate::seats::says;
+use crate::seats::seat_of;
+use crate::seats::seated;
+use crate::seats::size;
 use crate::words;
 use ends::Role;
 use quick::StepAnswer;

@@ -2,8 +2,6 @@
 use crate::State;
 use crate::choosing;
 use crate::element;
-use crate::ends::Kept;
-use crate::ends::Seats;
 use crate::identification;
 use crate::lent;
 use crate::lives;
@@ -13,6 +11,8 @@ use crate::reading;
 use crate::replying;
 use crate::say;
 use crate::say::append;
+use crate::seats::Kept;
+use crate::seats::Seats;
 use crate::showing;
 use crate::stepping;
 use crate::words;
