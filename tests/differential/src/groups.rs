@@ -136,6 +136,7 @@ impl Group {
 #[cfg(test)]
 mod tests {
     use super::*;
+    use crate::cases::refused;
     use std::collections::BTreeSet;
 
     #[test]
@@ -146,6 +147,17 @@ mod tests {
             let wanted: BTreeSet<_> = group.wanted().collect();
             assert_eq!(wanted.len(), group.wanted().count(), "{} names an answer twice", group.name);
             assert!(wanted.iter().all(|kind| group.knows(kind)) && !group.knows("refused 12"), "{}", group.name);
+        }
+    }
+
+    /// Document 01's numbers; 8198 would take 4,294,967,295 lines.
+    #[test]
+    fn every_number_must_occur_fifty_times_in_some_group() {
+        let of_table_17 = [1, 2, 3, 4, 5, 6, 7, 8, 9, 10, 11, 13, 14, 15, 16, 18, 19, 23, 24, 29, 30];
+        let own = [8_192, 8_193, 8_194, 8_195, 8_196, 8_197, 8_199, 8_200];
+        for number in of_table_17.into_iter().chain(own) {
+            let is_wanted = |group: &Group| group.wanted().any(|kind| kind == refused(number));
+            assert!(ALL.iter().any(|group| group.at_least >= 50 && is_wanted(group)), "{number}");
         }
     }
 }

@@ -259,7 +259,24 @@ fn kind_of(answer: &str) -> String {
 
 #[cfg(test)]
 mod tests {
-    use super::kind_of;
+    use super::*;
+
+    #[test]
+    fn answers_that_are_rare_or_foreign_fail() {
+        let group = groups::ALL.iter().find(|group| group.name == "port").expect("it is there");
+        let cases = group.cases(DEFAULT_SEED);
+        let failed = |answers: &[&str]| {
+            let mut counts = Counts::new(group);
+            let answers: Vec<_> = answers.iter().map(|answer| answer.to_string()).collect();
+            counts.add(group, &cases[0], &answers);
+            let mut tally = Tally::default();
+            count_occurrences(group, &cases, &counts, &mut tally);
+            tally.failed
+        };
+        assert_eq!(failed(&["keepalive", "key-exchange 4 1", "esp 4", "refused 16"]), 0);
+        assert_eq!(failed(&["keepalive", "key-exchange 4 1", "esp 4"]), 1);
+        assert_eq!(failed(&["keepalive", "key-exchange 4 1", "esp 4", "refused 15"]), 2);
+    }
 
     #[test]
     fn a_refusal_keeps_its_number_and_other_answers_lose_their_values() {

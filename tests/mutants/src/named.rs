@@ -58,6 +58,7 @@ const NAMED: &[(&str, &str)] = &[
     ("sequence.rs", "«refuse_if(!integrity, refusal::INTEGRITY)?;\n        self.accepted.insert(number);\
                      →self.accepted.insert(number);\n        refuse_if(!integrity, refusal::INTEGRITY)?;»"),
     ("sequence.rs", "«→.or(Some(()))».ok_or(refusal::SPI)\n    }\n\n    pub fn packet"),
+    ("sequence.rs", "self.lives.«remove→get»(&key)"),
     ("sequence.rs", "self.lives«.insert(key, Life::default())→.entry(key).or_default()»;"),
     ("sequence.rs", "«life.sent.checked_add(1)→Some(life.sent.wrapping_add(1))»"),
     ("verdict.rs", "«input.take(COUNTED).read_to_end(&mut bytes)→{ let mut input = input; input.read_to_end(&mut bytes) }»"),

@@ -11,8 +11,10 @@ use std::process::{Command, Stdio};
 use std::sync::Arc;
 use std::time::Duration;
 
-/// A run of the core or of an unchanged second program takes a second or two.
-const PATIENCE: Duration = Duration::from_secs(40);
+/// Long enough on a machine that does much else.
+const PATIENCE: Duration = Duration::from_secs(600);
+/// In seconds of processor time. A run of an unchanged second program takes a second or two; one without an end is stopped.
+const MOST_TIME: &str = "40";
 /// In KiB. A mutant that never stops keeping something is stopped by this.
 const MOST_MEMORY: &str = "1000000";
 
@@ -56,7 +58,8 @@ impl Trial {
     /// How this run notices that the program is not the core's equal, if it does.
     pub fn notices(&self, program: &Path) -> Option<String> {
         let mut limited = Command::new("sh");
-        limited.args(["-c", "ulimit -v \"$0\"; exec \"$@\"", MOST_MEMORY]).arg(program).stderr(Stdio::null());
+        let limits = "ulimit -v \"$0\"; ulimit -t \"$1\"; shift; exec \"$@\"";
+        limited.args(["-c", limits, MOST_MEMORY, MOST_TIME]).arg(program).stderr(Stdio::null());
         if self.of_verdicts {
             limited.arg("verdict");
         }
