@@ -18,9 +18,9 @@ use crate::seats::seated;
 use crate::words;
 use ends::End;
 use ends::Role;
+use put::put_bytes;
 use wire::after;
 use wire::front;
-use wire::put_bytes;
 
 struct Own {
     role: Role,

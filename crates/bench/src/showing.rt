@@ -18,9 +18,9 @@ use ends::Own;
 use ends::Progress;
 use ends::Role;
 use ends::Spis;
+use put::put_be32;
 use wire::after;
 use wire::front;
-use wire::put_be32;
 
 pub(crate) fn state(line: &[u8], ends: Seats, got: &Kept, out: &mut [u8], said: usize) -> usize {
     let Who::Is(role) = role_of(words::nth(line, 1)) else {

@@ -22,8 +22,8 @@ use crate::seats::seated;
 use crate::seats::size;
 use crate::words;
 use ends::Role;
-use quick::StepAnswer;
-use quick::Stepped;
+use steps::StepAnswer;
+use steps::Stepped;
 use wire::after;
 use wire::front;
 ghost use mathlib.Core.Path.{_≡_};
@@ -93,7 +93,7 @@ fn begun(
     let end = seat.end;
     let to = size(room.sent);
     let width = size(room.output);
-    quick::begin::begin(
+    begin::begin(
         end,
         id,
         first,
@@ -173,7 +173,7 @@ fn delivered(
     let to = from + size(room.sent);
     let until = from + size(room.got);
     let width = size(room.output);
-    quick::deliver::deliver(
+    deliver::deliver(
         end,
         holds,
         m,
@@ -203,7 +203,7 @@ fn ticked(role: Role, seat: Seat, sent: &[u8], got: &[u8], output: &mut [u8]) ->
     let room = seat.room;
     let end = seat.end;
     let width = size(room.output);
-    quick::tick::tick(
+    tick::tick(
         end,
         lent(role, room.sent, sent),
         lent(role, room.got, got),

@@ -6,7 +6,8 @@ use mathlib.Core.Bool.{Bool, true, false, _&&_}
 use native.Mathlib.Omega.{arith}
 use lib.ListN.{length, getD}
 use lib.Dec.{eqb}
-use Rattle.book.specs.Book.{mainLineLawful, quickLineLawful, mainLinesLawful, quickLinesLawful, bookInFront, bookSize, quickCount, bookRead}
+use Rattle.book.specs.Book.{mainLineLawful, quickLineLawful, mainLinesLawful, quickLinesLawful, bookInFront, bookRead}
+use Rattle.booklines.specs.Lines.{bookSize, quickCount}
 use Rattle.book.specs.declared.Book.the-variants.{Refused, Lawful}
 
 module _ (n : ℕ) (book : List ℕ) where

@@ -1,44 +1,14 @@
 -- The policy book, document 01, "Policy book and choice": a count byte, main lines, a count byte, quick lines.
-use Prim.Native.Nat.{ℕ, zero, suc, _+_, _*_}
+use Prim.Native.Nat.{ℕ, zero, suc}
 use mathlib.Core.List.{List, [], _∷_}
 use mathlib.Core.Bool.{Bool, true, _&&_}
-use lib.ListN.{length, getD}
+use lib.ListN.{length}
 use lib.Dec.{leb, eqb}
-use Rattle.wire.specs.Wire.{numberAt}
 use Rattle.wire.specs.Tests.{if_then_else_}
 use Rattle.wire.specs.Answer.{Answer, done, refused}
+use Rattle.booklines.specs.Lines.{mainCount, quickCount, bookSize, mainSeconds, quickProtocols, quickMode, quickSeconds}
 use Rattle.book.specs.declared.Book.{Book}
 use Rattle.book.specs.declared.Book.the-variants.{Refused, Lawful}
-
--- "a count byte 0 to 8", before each kind of line
-abbrev pub mainCount : List ℕ → ℕ
-mainCount book = getD book 0 0
-
-unfoldable pub quickStart : List ℕ → ℕ
-quickStart book = 1 + 4 * mainCount book
-
-unfoldable pub quickCount : List ℕ → ℕ
-quickCount book = getD book (quickStart book) 0
-
-unfoldable pub bookSize : List ℕ → ℕ
-bookSize book = quickStart book + 1 + 6 * quickCount book
-
--- "main lines (four-byte longest seconds, 1 to 86,400)": line i, counted from 0
-unfoldable pub mainSeconds : ℕ → List ℕ → ℕ
-mainSeconds i book = numberAt 4 book (1 + 4 * i)
-
--- "quick lines (protocols: 1 ESP alone, 2 AH with ESP; mode 1 to 4; four-byte seconds, 1 to 3,600)": the bytes of line i
-unfoldable pub quickAt : ℕ → List ℕ → ℕ
-quickAt i book = quickStart book + 1 + 6 * i
-
-unfoldable pub quickProtocols : ℕ → List ℕ → ℕ
-quickProtocols i book = getD book (quickAt i book) 0
-
-unfoldable pub quickMode : ℕ → List ℕ → ℕ
-quickMode i book = getD book (quickAt i book + 1) 0
-
-unfoldable pub quickSeconds : ℕ → List ℕ → ℕ
-quickSeconds i book = numberAt 4 book (quickAt i book + 2)
 
 unfoldable pub mainLineLawful : ℕ → List ℕ → Bool
 mainLineLawful i book = leb 1 (mainSeconds i book) && leb (mainSeconds i book) 86400

@@ -8,7 +8,8 @@ use lib.ListN.{length, take}
 use lib.Dec.{eqb, ltb, leb}
 use borrow.Author.Tests.{eq-eqb, ne-eqb, eqb-true, leb-true, not-false}
 use Rattle.wire.proofs.Tests.{both, passed}
-use Rattle.book.specs.Book.{mainCount, quickStart, quickCount, bookSize, bookInFront, mainLinesLawful, quickLinesLawful}
+use Rattle.booklines.specs.Lines.{mainCount, quickStart, quickCount, bookSize}
+use Rattle.book.specs.Book.{bookInFront, mainLinesLawful, quickLinesLawful}
 use Rattle.ends.specs.Fresh.{freshCode, idle, ownOf, fresh}
 use Rattle.ends.specs.declared.Role.{Role}
 use Rattle.ends.specs.declared.Own.{Own}

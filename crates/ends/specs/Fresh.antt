@@ -4,9 +4,10 @@ use mathlib.Core.List.{List, []}
 use mathlib.Core.Bool.{Bool, true, false, not, _||_, _&&_}
 use lib.ListN.{length, replicate}
 use lib.Dec.{ltb, leb, eqb}
-use Rattle.wire.specs.Wire.{paste}
+use Rattle.put.specs.Put.{paste}
 use Rattle.wire.specs.Tests.{if_then_else_}
-use Rattle.book.specs.Book.{bookInFront, bookSize}
+use Rattle.book.specs.Book.{bookInFront}
+use Rattle.booklines.specs.Lines.{bookSize}
 use Rattle.policy.specs.declared.Transforms.the-variants.{One}
 use Rattle.ends.specs.declared.Role.{Role}
 use Rattle.ends.specs.declared.Role.the-variants.{Initiator, Responder}

@@ -1,11 +1,11 @@
 // What an end is, what it is asked, and a fresh one.
 use book::book_in_front;
-use book::book_size;
+use booklines::book_size;
 use fields::ProposalNumber;
 use fields::TransformNumber;
 use policy::Transforms;
+use put::put_bytes;
 use wire::front;
-use wire::put_bytes;
 ghost use mathlib.Core.Path.{_≡_};
 ghost use Prim.Native.Nat.{_≤_};
 ghost use lib.ListN.{length};

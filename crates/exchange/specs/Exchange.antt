@@ -14,7 +14,10 @@ use Rattle.policy.specs.declared.Choice.the-variants.{Chosen}
 use Rattle.writing.specs.Messages.{bookOf, nonceOf, messageOne, messageTwo, messageThree}
 use Rattle.shapes.specs.Shapes.{alike, nonce}
 use Rattle.ends.specs.Fresh.{fresh}
-use Rattle.quick.specs.Ends.{After, begun, ticked, delivered, kept}
+use Rattle.steps.specs.Steps.{After, kept}
+use Rattle.begin.specs.Begin.{begun}
+use Rattle.tick.specs.Tick.{ticked}
+use Rattle.deliver.specs.Deliver.{delivered}
 use Rattle.ends.specs.declared.Role.{Role}
 use Rattle.ends.specs.declared.Role.the-variants.{Initiator, Responder}
 use Rattle.ends.specs.declared.State.{State}
@@ -22,8 +25,8 @@ use Rattle.ends.specs.declared.State.the-variants.{GivenUp}
 use Rattle.ends.specs.declared.Own.{Own}
 use Rattle.ends.specs.declared.Agreed.{Agreed}
 use Rattle.ends.specs.declared.End.{End}
-use Rattle.quick.specs.declared.StepAnswer.{StepAnswer}
-use Rattle.quick.specs.declared.StepAnswer.the-variants.{Send, Nothing, Refused}
+use Rattle.steps.specs.declared.StepAnswer.{StepAnswer}
+use Rattle.steps.specs.declared.StepAnswer.the-variants.{Send, Nothing, Refused}
 
 -- one end between two calls: "the record its last call left", and its kept buffers as that call left them
 pub record Party : Type 0 where

@@ -6,16 +6,18 @@ use mathlib.Core.List.{List, [], _∷_}
 use mathlib.Core.Bool.{true}
 use native.Mathlib.Omega.{arith}
 use lib.ListN.{replicate}
-use Rattle.wire.specs.Wire.{numberAt, bytesOf, head, headed, allZero, equal, paste}
+use Rattle.wire.specs.Wire.{numberAt, allZero, equal}
+use Rattle.put.specs.Put.{bytesOf, head, headed, paste}
 use Rattle.identity.specs.Identity as identities
 use Rattle.attribute.specs.Attributes as attributes
-use Rattle.offer.specs.Transforms as transforms
+use Rattle.transforms.specs.Transforms as transforms
 use Rattle.offer.specs.Proposals as proposals
 use Rattle.header.specs.Header as header
 use Rattle.message.specs.Payloads as payloads
 use Rattle.message.specs.Message as message
 use Rattle.fields.specs.Fields as fields
 use Rattle.sets.specs.Parts as parts
+use Rattle.booklines.specs.Lines as lines
 use Rattle.book.specs.Book as books
 use Rattle.suits.specs.Suits as suits
 use Rattle.policy.specs.Choice as choices
@@ -23,8 +25,13 @@ use Rattle.reply.specs.Reply as replies
 use Rattle.writing.specs.Messages as messages
 use Rattle.shapes.specs.Shapes as shapes
 use Rattle.checks.specs.Checks as checks
+use Rattle.taken.specs.Taken as taken
+use Rattle.agreed.specs.Agreed as agreed
 use Rattle.ends.specs.Fresh as fresh
-use Rattle.quick.specs.Ends as ends
+use Rattle.steps.specs.Steps as steps
+use Rattle.begin.specs.Begin as begins
+use Rattle.tick.specs.Tick as ticks
+use Rattle.deliver.specs.Deliver as delivers
 use Rattle.policy.specs.declared.Transforms.the-variants.{Two}
 use Rattle.ends.specs.declared.Role.the-variants.{Initiator, Responder}
 use Rattle.ends.specs.declared.Spis.the-variants.{Both}
@@ -130,13 +137,13 @@ unfolding start bookOne bookTwo firstIdentity secondIdentity nonceOne nonceTwo b
     payloads.typeWrong payloads.lengthOut payloads.hashCode payloads.nonceCode payloads.bodyCode payloads.bodyOf payloads.payloadCode payloads.restCode
     message.first message.chain message.reading message.counted message.message message.walk message.payloadAt
     parts.skip parts.parts parts.firstItem parts.afterItem parts.setEnd parts.firstSet parts.afterSet parts.numbered parts.set parts.setCount parts.setNumbered parts.proposal parts.proposalCount fields.proposalNumber fields.protocol fields.spi fields.transformCount parts.transform parts.transformNumbered fields.transformNumber fields.transformId fields.attributesOf
-    books.quickStart books.quickCount books.bookSize books.mainSeconds books.quickAt books.quickProtocols books.quickMode books.quickSeconds books.mainLineLawful books.quickLineLawful books.mainLinesLawful books.quickLinesLawful books.bookInFront
+    lines.quickStart lines.quickCount lines.bookSize lines.mainSeconds lines.quickAt lines.quickProtocols lines.quickMode lines.quickSeconds books.mainLineLawful books.quickLineLawful books.mainLinesLawful books.quickLinesLawful books.bookInFront
     suits.present suits.valueIs suits.lifeWithin suits.nothingSurplus suits.quickId suits.quickIntegrity suits.quickSuits suits.transformSuits suits.lowestFrom suits.lowest suits.protocolsAlone suits.protocolsBoth suits.protocolsSuit suits.setSuits
     choices.lineCount choices.lineFrom choices.firstLine choices.numberOf choices.transformsOf choices.chosen choices.setFrom choices.chooseFrom choices.bodyAt
     replies.ownSpi replies.fields replies.proposalOf replies.proposalReply replies.setReply replies.saOf
     messages.bookOf messages.nonceOf messages.fixed messages.integrity messages.attributes messages.transformOne messages.lineProposal messages.lineSet messages.nextSet messages.lineSets messages.lines messages.offerOf messages.hash messages.padding messages.padded messages.header messages.messageOf messages.nonceAndIdentities messages.longer messages.proposalsOf messages.messageOne messages.messageTwo messages.messageThree
-    shapes.kindIs shapes.shape shapes.isLonger shapes.alike checks.cookiesWrong fresh.isIdle fresh.isInitiator checks.quickCode checks.readCode shapes.countOf shapes.shapeOf checks.proposalTaken checks.setTaken checks.repliedSet checks.offeredSet checks.identitiesSame checks.takenCode checks.spisOf checks.transformsIn checks.spiFor checks.ownSpis checks.agreedTwo
-    fresh.freshCode fresh.idle fresh.ownOf fresh.fresh ends.small ends.kept fresh.isGivenUp ends.identitiesWrong ends.beginCode ends.begun ends.tickCode ends.withState ends.oneMore ends.isOpen ends.ticked ends.deliveryCode ends.identityAt ends.opened ends.atInitiator ends.halfway ends.answered ends.atResponder ends.delivered
+    shapes.kindIs shapes.shape shapes.isLonger shapes.alike checks.cookiesWrong fresh.isIdle fresh.isInitiator checks.quickCode checks.readCode shapes.countOf shapes.shapeOf taken.proposalTaken taken.setTaken taken.repliedSet taken.offeredSet taken.identitiesSame taken.takenCode agreed.spisOf agreed.transformsIn agreed.spiFor agreed.ownSpis taken.agreedTwo
+    fresh.freshCode fresh.idle fresh.ownOf fresh.fresh steps.small steps.kept fresh.isGivenUp begins.identitiesWrong begins.beginCode begins.begun ticks.tickCode steps.withState ticks.oneMore ticks.isOpen ticks.ticked delivers.deliveryCode delivers.identityAt delivers.opened delivers.atInitiator delivers.halfway delivers.answered delivers.atResponder delivers.delivered
 computed = record {
   starts-fresh = record {
     icookie = 3;

@@ -7,17 +7,18 @@ use native.Mathlib.Omega.{arith}
 use lib.ListN.{length, take, replicate, length-replicate}
 use lib.Dec.{ltb, leb, eqb}
 use borrow.Author.Tests.{eqb-true, eqb-false, leb-true, ltb-false, not-false}
-use Rattle.wire.specs.Wire.{paste}
+use Rattle.put.specs.Put.{paste}
 use Rattle.wire.proofs.Tests.{both, neither, by-test, passed}
-use Rattle.wire.proofs.Laws.{paste-inside}
-use Rattle.book.specs.Book.{mainCount, quickStart, quickCount, bookSize, bookInFront, mainLinesLawful, quickLinesLawful}
+use Rattle.put.proofs.Laws.{paste-inside}
+use Rattle.booklines.specs.Lines.{mainCount, quickStart, quickCount, bookSize}
+use Rattle.book.specs.Book.{bookInFront, mainLinesLawful, quickLinesLawful}
 use Rattle.writing.specs.Messages.{bookOf, nonceOf}
 use Rattle.ends.specs.Fresh.{freshCode, idle, ownOf, fresh}
 use Rattle.ends.specs.declared.Role.{Role}
 use Rattle.ends.specs.declared.State.the-variants.{Idle}
 use Rattle.ends.specs.declared.Made.{Made}
 use Rattle.ends.specs.declared.End.{End}
-use Rattle.quick.proofs.Shapes.{Fit}
+use Rattle.exchange.specs.MessageShapes.{Fit}
 use Rattle.exchange.specs.Exchange.{FreshEnd}
 
 -- the front of a buffer of zeros that takes it whole

@@ -8,27 +8,30 @@ use native.Mathlib.Omega.{arith}
 use lib.ListN.{length}
 use lib.Dec.{eqb}
 use borrow.Author.Tests.{eq-eqb}
-use Rattle.wire.specs.Wire.{numberAt, paste}
+use Rattle.wire.specs.Wire.{numberAt}
+use Rattle.put.specs.Put.{paste}
 use Rattle.wire.proofs.Tests.{never, clash, both, by-test}
 use Rattle.sets.specs.Parts.{setNumbered}
 use Rattle.policy.specs.Choice.{bodyAt, chooseFrom}
 use Rattle.policy.specs.declared.Choice.the-variants.{Chosen}
 use Rattle.message.specs.Message.{message}
 use Rattle.writing.specs.Messages.{bookOf, lines, offerOf, messageOne, messageTwo, messageThree}
-use Rattle.ends.specs.Fresh.{isIdle, isInitiator}
+use Rattle.ends.specs.Fresh.{isIdle, isInitiator, isGivenUp}
 use Rattle.shapes.specs.Shapes.{isLonger, alike, shapeOf}
-use Rattle.checks.specs.Checks.{readCode, takenCode}
-use Rattle.ends.specs.Fresh.{isGivenUp}
-use Rattle.quick.specs.Ends.{After, nothing, repeating, withState, oneMore, opened, atInitiator, halfway, answered, atResponder}
+use Rattle.checks.specs.Checks.{readCode}
+use Rattle.taken.specs.Taken.{takenCode}
+use Rattle.steps.specs.Steps.{After, nothing, repeating, withState}
+use Rattle.tick.specs.Tick.{oneMore}
+use Rattle.deliver.specs.Deliver.{opened, atInitiator, halfway, answered, atResponder}
 use Rattle.shapes.proofs.Laws.{alike-same, alike-sym, alike-trans, alike-says}
 use Rattle.ends.specs.declared.State.{State}
 use Rattle.ends.specs.declared.State.the-variants.{Idle, Sent, Half, Open, GivenUp}
 use Rattle.ends.specs.declared.Own.{Own}
 use Rattle.ends.specs.declared.Progress.{Progress}
-use Rattle.quick.specs.declared.StepAnswer.{StepAnswer}
-use Rattle.quick.specs.declared.StepAnswer.the-variants.{Send, Nothing, Refused}
-use Rattle.quick.proofs.Shapes.{payloadsWith}
-use Rattle.quick.proofs.MessageLaws.{longer-passes, third-passes}
+use Rattle.steps.specs.declared.StepAnswer.{StepAnswer}
+use Rattle.steps.specs.declared.StepAnswer.the-variants.{Send, Nothing, Refused}
+use Rattle.exchange.specs.MessageShapes.{payloadsWith}
+use Rattle.exchange.specs.MessageLaws.{longer-passes, third-passes}
 use Rattle.exchange.specs.Exchange.{Party, deliver, called, left, said, logged, World, atFirst, atSecond, step, Heard, here, there, Fair, Run, rest, goes, Fresh, stateOf, sentOf, gotOf, FullSize, Only, one, more, Then, turn, next, Beginning, beginCall, afterBegin, Suits, oneOf, twoOf, threeOf, Arrives, delivery}
 use Rattle.exchange.specs.ExchangeMoves.{asking, answering, past, answering-past, second-is, Ask, offered, answers-with, keeps-it, MoveR, moves-first, moves-second, own-first, own-second, open-rests, Begins, ask-of, begins-with, begin-open, taken-first, taken-second}
 use Rattle.exchange.specs.ExchangeSafety.{only-heard, then-heard, none-heard, Keeps, Pair, replyOf, Replied, Stage, new, asked, half, done, Inv, again, sends-it, one-read, one-short, three-read, three-short, two-read, two-takes, two-short, past-cases, always, silent}

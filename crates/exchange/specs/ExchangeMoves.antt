@@ -9,10 +9,10 @@ use lib.ListN.{length, take}
 use lib.Seq.{length-take-le}
 use lib.Dec.{ltb, eqb}
 use borrow.Author.Tests.{eqb-true, eqb-false, eq-eqb, ltb-false, le-ltb, not-false}
-use Rattle.wire.specs.Wire.{paste}
+use Rattle.put.specs.Put.{paste}
 use Rattle.wire.specs.Tests.{if_then_else_}
 use Rattle.wire.proofs.Tests.{never, clash, both, neither, by-test, passed}
-use Rattle.wire.proofs.Laws.{paste-inside}
+use Rattle.put.proofs.Laws.{paste-inside}
 use Rattle.identity.specs.Identity.{identity}
 use Rattle.sets.specs.Parts.{setNumbered}
 use Rattle.policy.specs.Choice.{bodyAt, chooseFrom}
@@ -20,18 +20,21 @@ use Rattle.policy.specs.declared.Choice.{Choice}
 use Rattle.policy.specs.declared.Choice.the-variants as choices
 use Rattle.writing.specs.Messages.{bookOf, lines, messageOne}
 use Rattle.message.specs.Message.{message}
-use Rattle.ends.specs.Fresh.{isIdle, isInitiator}
+use Rattle.ends.specs.Fresh.{isIdle, isInitiator, isGivenUp}
 use Rattle.shapes.specs.Shapes.{isLonger, alike, shapeOf}
-use Rattle.checks.specs.Checks.{readCode, takenCode}
-use Rattle.ends.specs.Fresh.{isGivenUp}
-use Rattle.quick.specs.Ends.{After, small, kept, isOpen, refusing, nothing, repeating, sending, identitiesWrong, beginCode, begun, tickCode, withState, oneMore, ticked, deliveryCode, opened, atInitiator, halfway, answered, atResponder, delivered}
+use Rattle.checks.specs.Checks.{readCode}
+use Rattle.taken.specs.Taken.{takenCode}
+use Rattle.steps.specs.Steps.{After, small, kept, refusing, nothing, repeating, sending, withState}
+use Rattle.tick.specs.Tick.{isOpen, tickCode, oneMore, ticked}
+use Rattle.begin.specs.Begin.{identitiesWrong, beginCode, begun}
+use Rattle.deliver.specs.Deliver.{deliveryCode, opened, atInitiator, halfway, answered, atResponder, delivered}
 use Rattle.ends.specs.declared.Role.{Role}
 use Rattle.ends.specs.declared.Role.the-variants.{Initiator, Responder}
 use Rattle.ends.specs.declared.State.{State}
 use Rattle.ends.specs.declared.State.the-variants.{Idle, Sent, Half, Open, GivenUp}
 use Rattle.ends.specs.declared.Own.{Own}
-use Rattle.quick.specs.declared.StepAnswer.the-variants.{Refused}
-use Rattle.quick.proofs.Shapes.{Identities}
+use Rattle.steps.specs.declared.StepAnswer.the-variants.{Refused}
+use Rattle.exchange.specs.MessageShapes.{Identities}
 use Rattle.exchange.specs.Exchange.{Party, Call, begin, deliver, tick, called, left, Heard, Allowed, stateOf, FullSize, Suits}
 
 -- ---- states

@@ -5,16 +5,19 @@ use mathlib.Core.Logic.{_⊎_, inl, inr}
 use mathlib.Core.List.{List, [], _∷_}
 use mathlib.Core.Bool.{true, false}
 use lib.ListN.{length}
-use Rattle.wire.specs.Wire.{paste}
+use Rattle.put.specs.Put.{paste}
 use Rattle.wire.proofs.Tests.{never, clash}
-use Rattle.wire.proofs.Laws.{length-paste}
+use Rattle.put.proofs.Laws.{length-paste}
 use Rattle.sets.specs.Parts.{setNumbered}
 use Rattle.policy.specs.Choice.{bodyAt}
 use Rattle.reply.specs.Reply.{setReply}
 use Rattle.writing.specs.Messages.{nonceOf, offerOf, messageThree}
 use Rattle.shapes.specs.Shapes.{alike, shapeOf, nonceIn, nonce}
-use Rattle.checks.specs.Checks.{takenCode, spisOf, ownSpis, agreedTwo}
-use Rattle.quick.specs.Ends.{After, kept, repeating, sending, withState, oneMore, opened, halfway}
+use Rattle.taken.specs.Taken.{takenCode, agreedTwo}
+use Rattle.agreed.specs.Agreed.{spisOf, ownSpis}
+use Rattle.steps.specs.Steps.{After, kept, repeating, sending, withState}
+use Rattle.tick.specs.Tick.{oneMore}
+use Rattle.deliver.specs.Deliver.{opened, halfway}
 use Rattle.shapes.proofs.Laws.{alike-same, alike-sym, alike-trans}
 use Rattle.ends.specs.declared.Role.the-variants.{Initiator, Responder}
 use Rattle.ends.specs.declared.State.{State}
@@ -22,9 +25,9 @@ use Rattle.ends.specs.declared.State.the-variants.{Idle, Sent, Half, Open, Give
 use Rattle.ends.specs.declared.Own.{Own}
 use Rattle.ends.specs.declared.Agreed.{Agreed}
 use Rattle.ends.specs.declared.Progress.{Progress}
-use Rattle.quick.proofs.Shapes.{Fit, Longer, Third, Answered, replyTo}
-use Rattle.quick.proofs.MessageLaws.{third-reads}
-use Rattle.quick.proofs.TakenLaws.{one-reads, two-reads, two-agreed, two-taken}
+use Rattle.exchange.specs.MessageShapes.{Fit, Longer, Third, Answered, replyTo}
+use Rattle.exchange.specs.MessageLaws.{third-reads}
+use Rattle.exchange.specs.TakenLaws.{one-reads, two-reads, two-agreed, two-taken}
 use Rattle.exchange.specs.Exchange.{Party, left, logged, World, Event, atFirst, atSecond, step, Heard, here, there, Fair, Run, rest, goes, Fresh, stateOf, sentOf, gotOf, agreedOf, Same, FullSize, Suits, Only, one, more, Then, turn, next}
 use Rattle.exchange.specs.ExchangeFresh.{fresh-fit}
 use Rattle.exchange.specs.ExchangeMoves.{asking, answering, past, answering-past, Ask, offered, begins-with, answers-with, in-front, keeps-it, in-front-again, MoveI, MoveR, moves-first, moves-second, own-first, own-second}

@@ -11,12 +11,12 @@ use Rattle.sets.specs.Parts.{setNumbered}
 use Rattle.policy.specs.Choice.{bodyAt}
 use Rattle.reply.specs.Reply.{setReply}
 use Rattle.writing.specs.Messages.{offerOf, proposalsOf, messageOne, messageTwo, messageThree}
-use Rattle.quick.specs.Ends.{identityAt}
+use Rattle.deliver.specs.Deliver.{identityAt}
 use Rattle.ends.specs.declared.Own.{Own}
 use Rattle.shapes.specs.Shapes.{alike}
 use Rattle.shapes.proofs.Laws.{alike-same}
-use Rattle.quick.proofs.Shapes.{Fit, payloadsWith}
-use Rattle.quick.proofs.MessageLaws.{Padded, longer-padded, third-padded}
+use Rattle.exchange.specs.MessageShapes.{Fit, payloadsWith}
+use Rattle.exchange.specs.MessageLaws.{Padded, longer-padded, third-padded}
 use Rattle.exchange.specs.Exchange.{Party, World, Run, Fresh, gotOf, Suits, Only, one, more, Then, turn, next}
 use Rattle.exchange.specs.ExchangeMoves.{Ask, offered}
 use Rattle.exchange.specs.ExchangeSafety.{Pair, replyOf, Stage, new, asked, half, done, one-read, three-read, two-read, always}

@@ -1,3 +1,7 @@
+pub mod MessageShapes
+pub mod MessageLaws
+pub mod OfferLaws
+pub mod TakenLaws
 pub mod Exchange
 pub mod ExchangeFresh
 pub mod ExchangeMoves

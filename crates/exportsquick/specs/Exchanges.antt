@@ -5,11 +5,13 @@ use mathlib.Core.Bool.{true}
 use lib.ListN.{take}
 use Rattle.ends.specs.declared.State.{State}
 use Rattle.ends.specs.declared.State.the-variants.{Idle, Sent, Half, Open, GivenUp}
-use Rattle.quick.specs.declared.StepAnswer.{StepAnswer}
-use Rattle.quick.specs.declared.StepAnswer.the-variants as answers
+use Rattle.steps.specs.declared.StepAnswer.{StepAnswer}
+use Rattle.steps.specs.declared.StepAnswer.the-variants as answers
 use Rattle.ends.specs.declared.End.{End}
 use Rattle.ends.specs.declared.Made.{Made}
-use Rattle.quick.specs.Ends.{After, begun, delivered}
+use Rattle.steps.specs.Steps.{After}
+use Rattle.begin.specs.Begin.{begun}
+use Rattle.deliver.specs.Deliver.{delivered}
 
 unfoldable pub stateNumber : State → ℕ
 stateNumber Idle = 0

@@ -1,14 +1,14 @@
 // What another language calls to reply to a message, and for a whole exchange in one call: two fresh ends, from begin to both open.
+use begin::begin;
+use deliver::deliver;
 use ends::End;
 use ends::Role;
 use ends::State;
 use ends::fresh;
-use quick::StepAnswer;
-use quick::Stepped;
-use quick::begin::begin;
-use quick::deliver::deliver;
 use reply::Outcome;
 use reply::reply;
+use steps::StepAnswer;
+use steps::Stepped;
 use wire::front;
 ghost use mathlib.Core.Path.{_≡_};
 ghost use Prim.Native.Nat.{_+_, _*_};

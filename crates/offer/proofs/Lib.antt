@@ -1,4 +1,3 @@
 pub mod Laws
 pub mod Written
-mod TransformWays
 mod ProposalWays

@@ -9,7 +9,7 @@ use lib.Dec.{eqb}
 use borrow.Author.Tests.{eq-eqb, ne-eqb, lt-ltb, le-ltb}
 use Rattle.wire.specs.Wire.{numberAt}
 use Rattle.wire.specs.Tests.{if_then_else_}
-use Rattle.offer.specs.Transforms.{transformsCode}
+use Rattle.transforms.specs.Transforms.{transformsCode}
 use Rattle.offer.specs.Proposals.{proposalWrong, with, none, setBefore, orderWrong, protocolWrong, spiWrong, countWrong, transformBytes, innerCode, proposalCode, proposalsCode, offerCode}
 use Rattle.offer.specs.declared.Protocols.{Protocols}
 

@@ -12,7 +12,7 @@ use borrow.Author.Tests.{eqb-true, eq-eqb, ne-eqb, le-ltb, le-leb}
 use Rattle.wire.specs.Wire.{numberAt}
 use Rattle.wire.proofs.Tests.{by-test}
 use Rattle.wire.proofs.Laws.{number-append, number-append-add}
-use Rattle.offer.specs.Transforms.{nextWanted, transformWrong, transformCode, transformsCode}
+use Rattle.transforms.specs.Transforms.{nextWanted, transformWrong, transformCode, transformsCode}
 use Rattle.offer.specs.Proposals.{proposalWrong, has, with, setBefore, none, orderWrong, protocolWrong, spiWrong, countWrong, transformBytes, innerCode, proposalCode, proposalsCode, offerCode}
 use Rattle.offer.specs.declared.Protocols.{Protocols}
 use Rattle.offer.proofs.Laws.{Item, LawfulTransform, first-lawful}

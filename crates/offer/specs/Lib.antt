@@ -1,2 +1,1 @@
-pub mod Transforms
 pub mod Proposals

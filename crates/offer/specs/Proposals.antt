@@ -7,7 +7,7 @@ use lib.ListN.{length, getD, take, drop}
 use lib.Dec.{ltb, leb, eqb}
 use Rattle.wire.specs.Wire.{numberAt}
 use Rattle.wire.specs.Tests.{if_then_else_}
-use Rattle.offer.specs.Transforms.{transformsCode}
+use Rattle.transforms.specs.Transforms.{transformsCode}
 use Rattle.offer.specs.declared.Protocols.{Protocols}
 
 -- "under 8 bytes left, next not 0 or 2, reserved nonzero, length below 8 plus SPI size or past the SA's end"

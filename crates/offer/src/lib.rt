@@ -1,7 +1,5 @@
 // The body of an SA payload: proposals and their transforms, checked in reading order. A slice begins at a proposal, but for
 // `check`, which takes the body.
-mod transforms;
-
 use transforms::transforms_code;
 use wire::after;
 use wire::be16;

@@ -15,7 +15,8 @@ use Rattle.message.specs.declared.Message.the-variants as read
 use Rattle.message.specs.declared.Payload.{Payload}
 use Rattle.sets.specs.Parts.{set, proposal, proposalCount}
 use Rattle.fields.specs.declared.TransformNumber.{TransformNumber}
-use Rattle.book.specs.Book.{mainCount, quickCount, bookSize, bookInFront, bookRead}
+use Rattle.booklines.specs.Lines.{mainCount, quickCount, bookSize}
+use Rattle.book.specs.Book.{bookInFront, bookRead}
 use Rattle.suits.specs.Suits.{lowest, setSuits}
 use Rattle.policy.specs.Choice.{lineCount, lineFrom, firstLine, numberOf, transformsOf, chosen, setFrom, chooseFrom, bodyAt, saFrom, messageRefusal, messageChoice, bookChoice, choice}
 use Rattle.book.specs.declared.Book.{Book}

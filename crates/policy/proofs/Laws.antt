@@ -11,7 +11,7 @@ use Rattle.wire.specs.Tests.{if_then_else_}
 use Rattle.wire.proofs.Tests.{clash, both, by-test}
 use Rattle.fields.specs.Fields.{transformCount}
 use Rattle.sets.specs.Parts.{set, setCount, proposal, proposalCount}
-use Rattle.book.specs.Book.{quickProtocols}
+use Rattle.booklines.specs.Lines.{quickProtocols}
 use Rattle.suits.specs.Suits.{transformSuits, lowestFrom, lowest, protocolsAlone, protocolsBoth, protocolsSuit, setSuits}
 use Rattle.policy.specs.Choice.{lineCount, lineFrom, firstLine, chosen, setFrom, chooseFrom}
 use Rattle.policy.specs.declared.Choice.{Choice}

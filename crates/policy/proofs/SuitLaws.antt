@@ -17,7 +17,7 @@ use Rattle.offer.proofs.Laws.{Item, LawfulTransform}
 use Rattle.fields.specs.Fields.{protocol, transformCount, transformId, attributesOf}
 use Rattle.sets.specs.Parts.{proposal, proposalCount, transform, transformNumbered}
 use Rattle.sets.proofs.Places.{transform-lawful, transform-by-number}
-use Rattle.book.specs.Book.{quickProtocols}
+use Rattle.booklines.specs.Lines.{quickProtocols}
 use Rattle.policy.specs.Choice.{numberOf}
 use Rattle.policy.proofs.Laws.{First, none, here, lowest-is, HasTransform, transform-low}
 use Rattle.suits.specs.Suits.{present, valueIs, lifeWithin, nothingSurplus, mainValues, mainSuits, quickId, quickIntegrity, quickSuits, transformSuits, lowest, protocolsAlone, protocolsBoth, protocolsSuit}

@@ -12,7 +12,8 @@ use Rattle.message.specs.declared.Message.the-variants as read
 use Rattle.fields.specs.Fields.{proposalNumber, transformNumber}
 use Rattle.sets.specs.Parts.{set, setCount, proposal, proposalCount, transform}
 use Rattle.fields.specs.declared.TransformNumber.{TransformNumber}
-use Rattle.book.specs.Book.{mainCount, quickCount, bookRead}
+use Rattle.booklines.specs.Lines.{mainCount, quickCount}
+use Rattle.book.specs.Book.{bookRead}
 use Rattle.book.specs.declared.Book.{Book}
 use Rattle.book.specs.declared.Book.the-variants as books
 use Rattle.suits.specs.Suits.{lowest, setSuits}

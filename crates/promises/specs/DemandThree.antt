@@ -9,7 +9,7 @@ use Rattle.writing.specs.Messages.{nonceOf}
 use Rattle.shapes.specs.Shapes.{nonce}
 use Rattle.ends.specs.declared.Role.the-variants.{Initiator, Responder}
 use Rattle.ends.specs.declared.State.the-variants.{Half, Open, GivenUp}
-use Rattle.quick.specs.declared.StepAnswer.the-variants.{Send, Refused}
+use Rattle.steps.specs.declared.StepAnswer.the-variants.{Send, Refused}
 use Rattle.exchange.specs.Exchange.{begin, called, World, atFirst, atSecond, step, Fair, Run, Fresh, stateOf, sentOf, gotOf, Same, Only, Then, Beginning, beginCall, afterBegin, Suits, oneOf, twoOf, threeOf, Arrives, delivery}
 use Rattle.exchange.specs.ExchangeFresh.{fresh-fit}
 use Rattle.exchange.specs.ExchangeMoves.{begin-shut}

@@ -30,18 +30,18 @@ use Rattle.wire.proofs.all_zero.Kinds as wire-all-zero-kinds
 use Rattle.wire.proofs.all_zero.Reads as wire-all-zero-reads
 use Rattle.wire.proofs.equal.Kinds as wire-equal-kinds
 use Rattle.wire.proofs.equal.Reads as wire-equal-reads
-use Rattle.wire.proofs.put_bytes.Kinds as wire-put-bytes-kinds
-use Rattle.wire.proofs.put_bytes.Reads as wire-put-bytes-reads
-use Rattle.wire.proofs.put_byte.Kinds as wire-put-byte-kinds
-use Rattle.wire.proofs.put_byte.Reads as wire-put-byte-reads
-use Rattle.wire.proofs.put_be16.Kinds as wire-put-be16-kinds
-use Rattle.wire.proofs.put_be16.Reads as wire-put-be16-reads
-use Rattle.wire.proofs.put_be32.Kinds as wire-put-be32-kinds
-use Rattle.wire.proofs.put_be32.Reads as wire-put-be32-reads
-use Rattle.wire.proofs.put_head.Kinds as wire-put-head-kinds
-use Rattle.wire.proofs.put_head.Reads as wire-put-head-reads
-use Rattle.wire.proofs.put_headed.Kinds as wire-put-headed-kinds
-use Rattle.wire.proofs.put_headed.Reads as wire-put-headed-reads
+use Rattle.put.proofs.put_bytes.Kinds as put-put-bytes-kinds
+use Rattle.put.proofs.put_bytes.Reads as put-put-bytes-reads
+use Rattle.put.proofs.put_byte.Kinds as put-put-byte-kinds
+use Rattle.put.proofs.put_byte.Reads as put-put-byte-reads
+use Rattle.put.proofs.put_be16.Kinds as put-put-be16-kinds
+use Rattle.put.proofs.put_be16.Reads as put-put-be16-reads
+use Rattle.put.proofs.put_be32.Kinds as put-put-be32-kinds
+use Rattle.put.proofs.put_be32.Reads as put-put-be32-reads
+use Rattle.put.proofs.put_head.Kinds as put-put-head-kinds
+use Rattle.put.proofs.put_head.Reads as put-put-head-reads
+use Rattle.put.proofs.put_headed.Kinds as put-put-headed-kinds
+use Rattle.put.proofs.put_headed.Reads as put-put-headed-reads
 use Rattle.der.proofs.is_element.Kinds as der-is-element-kinds
 use Rattle.der.proofs.is_element.Reads as der-is-element-reads
 use Rattle.der.proofs.is_name.Kinds as der-is-name-kinds
@@ -92,6 +92,8 @@ use Rattle.fields.proofs.attributes_of.Kinds as fields-attributes-of-kinds
 use Rattle.fields.proofs.attributes_of.Reads as fields-attributes-of-reads
 use Rattle.offer.proofs.transform_bytes.Kinds as offer-transform-bytes-kinds
 use Rattle.offer.proofs.transform_bytes.Reads as offer-transform-bytes-reads
+use Rattle.transforms.proofs.transforms_code.Kinds as transforms-transforms-code-kinds
+use Rattle.transforms.proofs.transforms_code.Reads as transforms-transforms-code-reads
 use Rattle.offer.proofs.check.Kinds as offer-check-kinds
 use Rattle.offer.proofs.check.Reads as offer-check-reads
 use Rattle.header.proofs.header_code.Kinds as header-header-code-kinds
@@ -102,14 +104,14 @@ use Rattle.message.proofs.payload_at.Kinds as message-payload-at-kinds
 use Rattle.message.proofs.payload_at.Reads as message-payload-at-reads
 use Rattle.message.proofs.payloads.body_of.Kinds as message-body-of-kinds
 use Rattle.message.proofs.payloads.body_of.Reads as message-body-of-reads
-use Rattle.book.proofs.book_size.Kinds as book-book-size-kinds
-use Rattle.book.proofs.book_size.Reads as book-book-size-reads
+use Rattle.booklines.proofs.book_size.Kinds as booklines-book-size-kinds
+use Rattle.booklines.proofs.book_size.Reads as booklines-book-size-reads
 use Rattle.book.proofs.book_in_front.Kinds as book-book-in-front-kinds
 use Rattle.book.proofs.book_in_front.Reads as book-book-in-front-reads
 use Rattle.book.proofs.read_book.Kinds as book-read-book-kinds
 use Rattle.book.proofs.read_book.Reads as book-read-book-reads
-use Rattle.book.proofs.main_seconds.Kinds as book-main-seconds-kinds
-use Rattle.book.proofs.main_seconds.Reads as book-main-seconds-reads
+use Rattle.booklines.proofs.main_seconds.Kinds as booklines-main-seconds-kinds
+use Rattle.booklines.proofs.main_seconds.Reads as booklines-main-seconds-reads
 use Rattle.suits.proofs.lowest.Kinds as suits-lowest-kinds
 use Rattle.suits.proofs.lowest.Reads as suits-lowest-reads
 use Rattle.suits.proofs.set_suits.Kinds as suits-set-suits-kinds
@@ -118,14 +120,14 @@ use Rattle.policy.proofs.choose.sa_body.Kinds as policy-sa-body-kinds
 use Rattle.policy.proofs.choose.sa_body.Reads as policy-sa-body-reads
 use Rattle.policy.proofs.choose.choose.Kinds as policy-choose-kinds
 use Rattle.policy.proofs.choose.choose.Reads as policy-choose-reads
-use Rattle.book.proofs.quick_count.Kinds as book-quick-count-kinds
-use Rattle.book.proofs.quick_count.Reads as book-quick-count-reads
-use Rattle.book.proofs.quick_protocols.Kinds as book-quick-protocols-kinds
-use Rattle.book.proofs.quick_protocols.Reads as book-quick-protocols-reads
-use Rattle.book.proofs.quick_mode.Kinds as book-quick-mode-kinds
-use Rattle.book.proofs.quick_mode.Reads as book-quick-mode-reads
-use Rattle.book.proofs.quick_seconds.Kinds as book-quick-seconds-kinds
-use Rattle.book.proofs.quick_seconds.Reads as book-quick-seconds-reads
+use Rattle.booklines.proofs.quick_count.Kinds as booklines-quick-count-kinds
+use Rattle.booklines.proofs.quick_count.Reads as booklines-quick-count-reads
+use Rattle.booklines.proofs.quick_protocols.Kinds as booklines-quick-protocols-kinds
+use Rattle.booklines.proofs.quick_protocols.Reads as booklines-quick-protocols-reads
+use Rattle.booklines.proofs.quick_mode.Kinds as booklines-quick-mode-kinds
+use Rattle.booklines.proofs.quick_mode.Reads as booklines-quick-mode-reads
+use Rattle.booklines.proofs.quick_seconds.Kinds as booklines-quick-seconds-kinds
+use Rattle.booklines.proofs.quick_seconds.Reads as booklines-quick-seconds-reads
 use Rattle.suits.proofs.quick_id.Kinds as suits-quick-id-kinds
 use Rattle.suits.proofs.quick_id.Reads as suits-quick-id-reads
 use Rattle.policy.proofs.choose.choose_from.Kinds as policy-choose-from-kinds
@@ -136,12 +138,20 @@ use Rattle.reply.proofs.put_proposal.Kinds as reply-put-proposal-kinds
 use Rattle.reply.proofs.put_proposal.Reads as reply-put-proposal-reads
 use Rattle.ends.proofs.fresh.Kinds as ends-fresh-kinds
 use Rattle.ends.proofs.fresh.Reads as ends-fresh-reads
-use Rattle.quick.proofs.begin.begin.Kinds as quick-begin-kinds
-use Rattle.quick.proofs.begin.begin.Reads as quick-begin-reads
-use Rattle.quick.proofs.deliver.deliver.Kinds as quick-deliver-kinds
-use Rattle.quick.proofs.deliver.deliver.Reads as quick-deliver-reads
-use Rattle.quick.proofs.tick.tick.Kinds as quick-tick-kinds
-use Rattle.quick.proofs.tick.tick.Reads as quick-tick-reads
+use Rattle.begin.proofs.begin.Kinds as begin-begin-kinds
+use Rattle.begin.proofs.begin.Reads as begin-begin-reads
+use Rattle.deliver.proofs.deliver.Kinds as deliver-deliver-kinds
+use Rattle.deliver.proofs.deliver.Reads as deliver-deliver-reads
+use Rattle.steps.proofs.small.Kinds as steps-small-kinds
+use Rattle.steps.proofs.small.Reads as steps-small-reads
+use Rattle.steps.proofs.kept_size.Kinds as steps-kept-size-kinds
+use Rattle.steps.proofs.kept_size.Reads as steps-kept-size-reads
+use Rattle.steps.proofs.kept.Kinds as steps-kept-kinds
+use Rattle.steps.proofs.kept.Reads as steps-kept-reads
+use Rattle.steps.proofs.with_state.Kinds as steps-with-state-kinds
+use Rattle.steps.proofs.with_state.Reads as steps-with-state-reads
+use Rattle.tick.proofs.tick.Kinds as tick-tick-kinds
+use Rattle.tick.proofs.tick.Reads as tick-tick-reads
 use Rattle.shapes.proofs.shape.Kinds as shapes-shape-kinds
 use Rattle.shapes.proofs.shape.Reads as shapes-shape-reads
 use Rattle.shapes.proofs.is_longer.Kinds as shapes-is-longer-kinds
@@ -166,14 +176,16 @@ use Rattle.checks.proofs.read_code.Kinds as checks-read-code-kinds
 use Rattle.checks.proofs.read_code.Reads as checks-read-code-reads
 use Rattle.shapes.proofs.count_of.Kinds as shapes-count-of-kinds
 use Rattle.shapes.proofs.count_of.Reads as shapes-count-of-reads
-use Rattle.checks.proofs.taken_code.Kinds as checks-taken-code-kinds
-use Rattle.checks.proofs.taken_code.Reads as checks-taken-code-reads
-use Rattle.checks.proofs.spis_of.Kinds as checks-spis-of-kinds
-use Rattle.checks.proofs.spis_of.Reads as checks-spis-of-reads
-use Rattle.checks.proofs.own_spis.Kinds as checks-own-spis-kinds
-use Rattle.checks.proofs.own_spis.Reads as checks-own-spis-reads
-use Rattle.checks.proofs.agreed_two.Kinds as checks-agreed-two-kinds
-use Rattle.checks.proofs.agreed_two.Reads as checks-agreed-two-reads
+use Rattle.taken.proofs.taken_code.Kinds as taken-taken-code-kinds
+use Rattle.taken.proofs.taken_code.Reads as taken-taken-code-reads
+use Rattle.agreed.proofs.spis_of.Kinds as agreed-spis-of-kinds
+use Rattle.agreed.proofs.spis_of.Reads as agreed-spis-of-reads
+use Rattle.agreed.proofs.own_spis.Kinds as agreed-own-spis-kinds
+use Rattle.agreed.proofs.own_spis.Reads as agreed-own-spis-reads
+use Rattle.agreed.proofs.transforms_in.Kinds as agreed-transforms-in-kinds
+use Rattle.agreed.proofs.transforms_in.Reads as agreed-transforms-in-reads
+use Rattle.taken.proofs.agreed_two.Kinds as taken-agreed-two-kinds
+use Rattle.taken.proofs.agreed_two.Reads as taken-agreed-two-reads
 use Rattle.shapes.proofs.nonce.Kinds as shapes-nonce-kinds
 use Rattle.shapes.proofs.nonce.Reads as shapes-nonce-reads
 use Rattle.reply.proofs.put_reply.Kinds as reply-put-reply-kinds
@@ -218,8 +230,8 @@ use Rattle.sequence.proofs.table.loss.Reads as sequence-loss-reads
 use Rattle.receive.proofs.step_in_place as receive-step-in-place-contract
 use Rattle.receive.proofs.step_lent as receive-step-lent-contract
 use Rattle.reply.specs.declared.Outcome.{Outcome as ReplyOutcome}
-use Rattle.quick.specs.Ends.{After}
-use Rattle.quick.specs.declared.Stepped.{Stepped}
+use Rattle.steps.specs.Steps.{After}
+use Rattle.steps.specs.declared.Stepped.{Stepped}
 use Rattle.receive.specs.declared.Receive.{Receive}
 use Rattle.receive.specs.declared.Verdict.{Verdict}
 use Rattle.receive.specs.declared.Judged.{Judged}
@@ -254,23 +266,23 @@ wire-all-zero κs arguments x y s t p q = p ∙ sym q
 pub wire-equal : OneAnswer 2 wire-equal-kinds.ps wire-equal-kinds.r (λ κs x s. x) wire-equal-reads.Post
 wire-equal κs arguments x y s t p q = p ∙ sym q
 
-pub wire-put-bytes : OneAnswer 2 wire-put-bytes-kinds.ps wire-put-bytes-kinds.r (λ κs x s. now (s .0)) wire-put-bytes-reads.Post
-wire-put-bytes κs arguments x y s t p q = p ∙ sym q
+pub put-put-bytes : OneAnswer 2 put-put-bytes-kinds.ps put-put-bytes-kinds.r (λ κs x s. now (s .0)) put-put-bytes-reads.Post
+put-put-bytes κs arguments x y s t p q = p ∙ sym q
 
-pub wire-put-byte : OneAnswer 1 wire-put-byte-kinds.ps wire-put-byte-kinds.r (λ κs x s. now (s .0)) wire-put-byte-reads.Post
-wire-put-byte κs arguments x y s t p q = p ∙ sym q
+pub put-put-byte : OneAnswer 1 put-put-byte-kinds.ps put-put-byte-kinds.r (λ κs x s. now (s .0)) put-put-byte-reads.Post
+put-put-byte κs arguments x y s t p q = p ∙ sym q
 
-pub wire-put-be16 : OneAnswer 1 wire-put-be16-kinds.ps wire-put-be16-kinds.r (λ κs x s. now (s .0)) wire-put-be16-reads.Post
-wire-put-be16 κs arguments x y s t p q = p ∙ sym q
+pub put-put-be16 : OneAnswer 1 put-put-be16-kinds.ps put-put-be16-kinds.r (λ κs x s. now (s .0)) put-put-be16-reads.Post
+put-put-be16 κs arguments x y s t p q = p ∙ sym q
 
-pub wire-put-be32 : OneAnswer 1 wire-put-be32-kinds.ps wire-put-be32-kinds.r (λ κs x s. now (s .0)) wire-put-be32-reads.Post
-wire-put-be32 κs arguments x y s t p q = p ∙ sym q
+pub put-put-be32 : OneAnswer 1 put-put-be32-kinds.ps put-put-be32-kinds.r (λ κs x s. now (s .0)) put-put-be32-reads.Post
+put-put-be32 κs arguments x y s t p q = p ∙ sym q
 
-pub wire-put-head : OneAnswer 1 wire-put-head-kinds.ps wire-put-head-kinds.r (λ κs x s. now (s .0)) wire-put-head-reads.Post
-wire-put-head κs arguments x y s t p q = p ∙ sym q
+pub put-put-head : OneAnswer 1 put-put-head-kinds.ps put-put-head-kinds.r (λ κs x s. now (s .0)) put-put-head-reads.Post
+put-put-head κs arguments x y s t p q = p ∙ sym q
 
-pub wire-put-headed : OneAnswer 2 wire-put-headed-kinds.ps wire-put-headed-kinds.r {A = ℕ × List ℕ} (λ κs x s. (x, now (s .0))) wire-put-headed-reads.Post
-wire-put-headed κs arguments x y s t p q = sym p ∙ q
+pub put-put-headed : OneAnswer 2 put-put-headed-kinds.ps put-put-headed-kinds.r {A = ℕ × List ℕ} (λ κs x s. (x, now (s .0))) put-put-headed-reads.Post
+put-put-headed κs arguments x y s t p q = sym p ∙ q
 
 pub der-is-element : OneAnswer 1 der-is-element-kinds.ps der-is-element-kinds.r (λ κs x s. x) der-is-element-reads.Post
 der-is-element κs arguments x y s t p q = p ∙ sym q
@@ -347,6 +359,9 @@ fields-attributes-of κs arguments x y s t p q = p ∙ sym q
 pub offer-transform-bytes : OneAnswer 1 offer-transform-bytes-kinds.ps offer-transform-bytes-kinds.r (λ κs x s. now x) offer-transform-bytes-reads.Post
 offer-transform-bytes κs arguments x y s t p q = p ∙ sym q
 
+pub transforms-transforms-code : OneAnswer 1 transforms-transforms-code-kinds.ps transforms-transforms-code-kinds.r (λ κs x s. x) transforms-transforms-code-reads.Post
+transforms-transforms-code κs arguments x y s t p q = p ∙ sym q
+
 pub offer-check : OneAnswer 1 offer-check-kinds.ps offer-check-kinds.r (λ κs x s. x) offer-check-reads.Post
 offer-check κs arguments x y s t p q = p ∙ sym q
 
@@ -362,8 +377,8 @@ message-payload-at κs arguments x y s t p q = p ∙ sym q
 pub message-body-of : OneAnswer 1 message-body-of-kinds.ps message-body-of-kinds.r (λ κs x s. now x) message-body-of-reads.Post
 message-body-of κs arguments x y s t p q = p ∙ sym q
 
-pub book-book-size : OneAnswer 1 book-book-size-kinds.ps book-book-size-kinds.r (λ κs x s. x) book-book-size-reads.Post
-book-book-size κs arguments x y s t p q = p ∙ sym q
+pub booklines-book-size : OneAnswer 1 booklines-book-size-kinds.ps booklines-book-size-kinds.r (λ κs x s. x) booklines-book-size-reads.Post
+booklines-book-size κs arguments x y s t p q = p ∙ sym q
 
 pub book-book-in-front : OneAnswer 1 book-book-in-front-kinds.ps book-book-in-front-kinds.r (λ κs x s. x) book-book-in-front-reads.Post
 book-book-in-front κs arguments x y s t p q = p ∙ sym q
@@ -371,8 +386,8 @@ book-book-in-front κs arguments x y s t p q = p ∙ sym q
 pub book-read-book : OneAnswer 1 book-read-book-kinds.ps book-read-book-kinds.r (λ κs x s. x) book-read-book-reads.Post
 book-read-book κs arguments x y s t p q = p ∙ sym q
 
-pub book-main-seconds : OneAnswer 1 book-main-seconds-kinds.ps book-main-seconds-kinds.r (λ κs x s. x) book-main-seconds-reads.Post
-book-main-seconds κs arguments x y s t p q = p ∙ sym q
+pub booklines-main-seconds : OneAnswer 1 booklines-main-seconds-kinds.ps booklines-main-seconds-kinds.r (λ κs x s. x) booklines-main-seconds-reads.Post
+booklines-main-seconds κs arguments x y s t p q = p ∙ sym q
 
 pub suits-lowest : OneAnswer 2 suits-lowest-kinds.ps suits-lowest-kinds.r (λ κs x s. x) suits-lowest-reads.Post
 suits-lowest κs arguments x y s t p q = p ∙ sym q
@@ -386,17 +401,17 @@ policy-sa-body κs arguments x y s t p q = p ∙ sym q
 pub policy-choose : OneAnswer 2 policy-choose-kinds.ps policy-choose-kinds.r (λ κs x s. x) policy-choose-reads.Post
 policy-choose κs arguments x y s t p q = p ∙ sym q
 
-pub book-quick-count : OneAnswer 1 book-quick-count-kinds.ps book-quick-count-kinds.r (λ κs x s. x) book-quick-count-reads.Post
-book-quick-count κs arguments x y s t p q = p ∙ sym q
+pub booklines-quick-count : OneAnswer 1 booklines-quick-count-kinds.ps booklines-quick-count-kinds.r (λ κs x s. x) booklines-quick-count-reads.Post
+booklines-quick-count κs arguments x y s t p q = p ∙ sym q
 
-pub book-quick-protocols : OneAnswer 1 book-quick-protocols-kinds.ps book-quick-protocols-kinds.r (λ κs x s. x) book-quick-protocols-reads.Post
-book-quick-protocols κs arguments x y s t p q = p ∙ sym q
+pub booklines-quick-protocols : OneAnswer 1 booklines-quick-protocols-kinds.ps booklines-quick-protocols-kinds.r (λ κs x s. x) booklines-quick-protocols-reads.Post
+booklines-quick-protocols κs arguments x y s t p q = p ∙ sym q
 
-pub book-quick-mode : OneAnswer 1 book-quick-mode-kinds.ps book-quick-mode-kinds.r (λ κs x s. x) book-quick-mode-reads.Post
-book-quick-mode κs arguments x y s t p q = p ∙ sym q
+pub booklines-quick-mode : OneAnswer 1 booklines-quick-mode-kinds.ps booklines-quick-mode-kinds.r (λ κs x s. x) booklines-quick-mode-reads.Post
+booklines-quick-mode κs arguments x y s t p q = p ∙ sym q
 
-pub book-quick-seconds : OneAnswer 1 book-quick-seconds-kinds.ps book-quick-seconds-kinds.r (λ κs x s. x) book-quick-seconds-reads.Post
-book-quick-seconds κs arguments x y s t p q = p ∙ sym q
+pub booklines-quick-seconds : OneAnswer 1 booklines-quick-seconds-kinds.ps booklines-quick-seconds-kinds.r (λ κs x s. x) booklines-quick-seconds-reads.Post
+booklines-quick-seconds κs arguments x y s t p q = p ∙ sym q
 
 pub suits-quick-id : OneAnswer 0 suits-quick-id-kinds.ps suits-quick-id-kinds.r (λ κs x s. x) suits-quick-id-reads.Post
 suits-quick-id κs arguments x y s t p q = p ∙ sym q
@@ -413,14 +428,26 @@ reply-put-proposal κs arguments x y s t p q = sym p ∙ q
 pub ends-fresh : OneAnswer 2 ends-fresh-kinds.ps ends-fresh-kinds.r (λ κs x s. x) ends-fresh-reads.Post
 ends-fresh κs arguments x y s t p q = p ∙ sym q
 
-pub quick-begin : OneAnswer 5 quick-begin-kinds.ps quick-begin-kinds.r {A = Stepped × List ℕ × List ℕ} (λ κs x s. (x, now (s .1 .1 .1 .1 .0), now (s .1 .1 .1 .1 .1 .1 .0))) quick-begin-reads.Post
-quick-begin κs arguments x y s t p q = ap (λ (a : After). (a .step, a .sent, a .output)) (sym p ∙ q)
+pub begin-begin : OneAnswer 5 begin-begin-kinds.ps begin-begin-kinds.r {A = Stepped × List ℕ × List ℕ} (λ κs x s. (x, now (s .1 .1 .1 .1 .0), now (s .1 .1 .1 .1 .1 .1 .0))) begin-begin-reads.Post
+begin-begin κs arguments x y s t p q = ap (λ (a : After). (a .step, a .sent, a .output)) (sym p ∙ q)
 
-pub quick-deliver : OneAnswer 4 quick-deliver-kinds.ps quick-deliver-kinds.r {A = After} (λ κs x s. record { step = x; sent = now (s .1 .1 .1 .0); got = now (s .1 .1 .1 .1 .0); output = now (s .1 .1 .1 .1 .1 .0) }) quick-deliver-reads.Post
-quick-deliver κs arguments x y s t p q = sym p ∙ q
+pub deliver-deliver : OneAnswer 4 deliver-deliver-kinds.ps deliver-deliver-kinds.r {A = After} (λ κs x s. record { step = x; sent = now (s .1 .1 .1 .0); got = now (s .1 .1 .1 .1 .0); output = now (s .1 .1 .1 .1 .1 .0) }) deliver-deliver-reads.Post
+deliver-deliver κs arguments x y s t p q = sym p ∙ q
 
-pub quick-tick : OneAnswer 3 quick-tick-kinds.ps quick-tick-kinds.r {A = Stepped × List ℕ} (λ κs x s. (x, now (s .1 .1 .1 .0))) quick-tick-reads.Post
-quick-tick κs arguments x y s t p q = ap (λ (a : After). (a .step, a .output)) (sym p ∙ q)
+pub steps-small : OneAnswer 3 steps-small-kinds.ps steps-small-kinds.r (λ κs x s. x) steps-small-reads.Post
+steps-small κs arguments x y s t p q = p ∙ sym q
+
+pub steps-kept-size : OneAnswer 0 steps-kept-size-kinds.ps steps-kept-size-kinds.r (λ κs x s. x) steps-kept-size-reads.Post
+steps-kept-size κs arguments x y s t p q = p ∙ sym q
+
+pub steps-kept : OneAnswer 1 steps-kept-kinds.ps steps-kept-kinds.r (λ κs x s. now x) steps-kept-reads.Post
+steps-kept κs arguments x y s t p q = p ∙ sym q
+
+pub steps-with-state : OneAnswer 0 steps-with-state-kinds.ps steps-with-state-kinds.r (λ κs x s. x) steps-with-state-reads.Post
+steps-with-state κs arguments x y s t p q = p ∙ sym q
+
+pub tick-tick : OneAnswer 3 tick-tick-kinds.ps tick-tick-kinds.r {A = Stepped × List ℕ} (λ κs x s. (x, now (s .1 .1 .1 .0))) tick-tick-reads.Post
+tick-tick κs arguments x y s t p q = ap (λ (a : After). (a .step, a .output)) (sym p ∙ q)
 
 pub shapes-shape : OneAnswer 1 shapes-shape-kinds.ps shapes-shape-kinds.r (λ κs x s. x) shapes-shape-reads.Post
 shapes-shape κs arguments x y s t p q = p ∙ sym q
@@ -458,17 +485,20 @@ checks-read-code κs arguments x y s t p q = p ∙ sym q
 pub shapes-count-of : OneAnswer 0 shapes-count-of-kinds.ps shapes-count-of-kinds.r (λ κs x s. x) shapes-count-of-reads.Post
 shapes-count-of κs arguments x y s t p q = p ∙ sym q
 
-pub checks-taken-code : OneAnswer 2 checks-taken-code-kinds.ps checks-taken-code-kinds.r (λ κs x s. x) checks-taken-code-reads.Post
-checks-taken-code κs arguments x y s t p q = p ∙ sym q
+pub taken-taken-code : OneAnswer 2 taken-taken-code-kinds.ps taken-taken-code-kinds.r (λ κs x s. x) taken-taken-code-reads.Post
+taken-taken-code κs arguments x y s t p q = p ∙ sym q
 
-pub checks-spis-of : OneAnswer 1 checks-spis-of-kinds.ps checks-spis-of-kinds.r (λ κs x s. x) checks-spis-of-reads.Post
-checks-spis-of κs arguments x y s t p q = p ∙ sym q
+pub agreed-spis-of : OneAnswer 1 agreed-spis-of-kinds.ps agreed-spis-of-kinds.r (λ κs x s. x) agreed-spis-of-reads.Post
+agreed-spis-of κs arguments x y s t p q = p ∙ sym q
 
-pub checks-own-spis : OneAnswer 1 checks-own-spis-kinds.ps checks-own-spis-kinds.r (λ κs x s. x) checks-own-spis-reads.Post
-checks-own-spis κs arguments x y s t p q = p ∙ sym q
+pub agreed-own-spis : OneAnswer 1 agreed-own-spis-kinds.ps agreed-own-spis-kinds.r (λ κs x s. x) agreed-own-spis-reads.Post
+agreed-own-spis κs arguments x y s t p q = p ∙ sym q
 
-pub checks-agreed-two : OneAnswer 2 checks-agreed-two-kinds.ps checks-agreed-two-kinds.r (λ κs x s. x) checks-agreed-two-reads.Post
-checks-agreed-two κs arguments x y s t p q = p ∙ sym q
+pub agreed-transforms-in : OneAnswer 1 agreed-transforms-in-kinds.ps agreed-transforms-in-kinds.r (λ κs x s. x) agreed-transforms-in-reads.Post
+agreed-transforms-in κs arguments x y s t p q = p ∙ sym q
+
+pub taken-agreed-two : OneAnswer 2 taken-agreed-two-kinds.ps taken-agreed-two-kinds.r (λ κs x s. x) taken-agreed-two-reads.Post
+taken-agreed-two κs arguments x y s t p q = p ∙ sym q
 
 pub shapes-nonce : OneAnswer 1 shapes-nonce-kinds.ps shapes-nonce-kinds.r (λ κs x s. now x) shapes-nonce-reads.Post
 shapes-nonce κs arguments x y s t p q = p ∙ sym q

@@ -13,13 +13,16 @@ use Rattle.policy.specs.declared.Choice.{Choice}
 use Rattle.policy.specs.declared.Choice.the-variants as choices
 use Rattle.ends.specs.Fresh.{isInitiator}
 use Rattle.shapes.specs.Shapes.{isLonger, alike, shapeOf}
-use Rattle.checks.specs.Checks.{takenCode}
-use Rattle.quick.specs.Ends.{After, kept, refusing, begun, ticked, opened, atInitiator, halfway, answered, atResponder, delivered, answer}
+use Rattle.taken.specs.Taken.{takenCode}
+use Rattle.steps.specs.Steps.{After, kept, refusing, answer}
+use Rattle.begin.specs.Begin.{begun}
+use Rattle.tick.specs.Tick.{ticked}
+use Rattle.deliver.specs.Deliver.{opened, atInitiator, halfway, answered, atResponder, delivered}
 use Rattle.ends.specs.declared.End.{End}
 use Rattle.ends.specs.declared.State.{State}
 use Rattle.ends.specs.declared.State.the-variants.{Idle, Sent, Half, Open, GivenUp}
-use Rattle.quick.specs.declared.StepAnswer.{StepAnswer}
-use Rattle.quick.specs.declared.StepAnswer.the-variants.{Send, Nothing, Refused}
+use Rattle.steps.specs.declared.StepAnswer.{StepAnswer}
+use Rattle.steps.specs.declared.StepAnswer.the-variants.{Send, Nothing, Refused}
 use Rattle.exchange.specs.Exchange.{Party, World, Run, Fresh}
 use Rattle.exchange.specs.ExchangeMoves.{by-begin, by-tick, by-delivery}
 use Rattle.exchange.specs.ExchangeWritten.{AllReadable, all-readable}

@@ -11,9 +11,11 @@ use lib.ListN.{length, getD, take, drop, length-drop, length-append, List·getD-
 use lib.Seq.{length-take-le, take-at, drop-at, take-add, drop-drop, getD-drop}
 use lib.Dec.{eqb}
 use borrow.Author.Tests.{eq-eqb, ne-eqb, le-ltb}
-use Rattle.wire.specs.Wire.{numberAt, bytesOf}
+use Rattle.wire.specs.Wire.{numberAt}
+use Rattle.put.specs.Put.{bytesOf}
 use Rattle.wire.proofs.Tests.{by-test, passed}
-use Rattle.wire.proofs.Laws.{number-drop, number-take, number-append, number-append-add, length-bytesOf, number-bytesOf, paste-inside, drop-paste}
+use Rattle.wire.proofs.Laws.{number-drop, number-take, number-append, number-append-add}
+use Rattle.put.proofs.Laws.{length-bytesOf, number-bytesOf, paste-inside, drop-paste}
 use Rattle.header.specs.Header.{exchangeOf, flagsOf, firstPayload, lengthWrong, majorWrong, minorWrong, exchangeRefused, exchangeUnknown, flagsWrong, cookieWrong, messageIdWrong, padWrong, noPayload, headerCode}
 use Rattle.header.proofs.Laws as headers
 use Rattle.message.specs.Message.{message}

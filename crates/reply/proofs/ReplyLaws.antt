@@ -10,9 +10,11 @@ use lib.ListN.{length, getD, drop, length-append, length-drop}
 use lib.Seq.{take-length, take-append-seam, drop-cons, drop-drop, getD-drop}
 use lib.Dec.{ltb, eqb}
 use borrow.Author.Tests.{eq-eqb, ne-eqb, ltb-false, le-ltb}
-use Rattle.wire.specs.Wire.{numberAt, bytesOf, head, headed, paste}
+use Rattle.wire.specs.Wire.{numberAt}
+use Rattle.put.specs.Put.{bytesOf, head, headed, paste}
 use Rattle.wire.proofs.Tests.{neither}
-use Rattle.wire.proofs.Laws.{number-agree, number-bytesOf, length-bytesOf, length-headed, headed-lies}
+use Rattle.wire.proofs.Laws.{number-agree}
+use Rattle.put.proofs.Laws.{number-bytesOf, length-bytesOf, length-headed, headed-lies}
 use Rattle.offer.specs.Proposals.{protocolWrong, transformBytes, proposalsCode, offerCode}
 use Rattle.offer.specs.Proposals as proposals
 use Rattle.offer.proofs.Laws.{Item, Rising, end, on, LawfulTransform}

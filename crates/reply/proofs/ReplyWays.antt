@@ -7,9 +7,9 @@ use native.Mathlib.Omega.{arith}
 use lib.ListN.{length, drop, length-drop, length-append}
 use lib.Dec.{eqb}
 use borrow.Author.Tests.{eq-eqb, ne-eqb, lt-ltb, le-ltb}
-use Rattle.wire.specs.Wire.{bytesOf, head, headed, paste, put}
+use Rattle.put.specs.Put.{bytesOf, head, headed, paste, put}
 use Rattle.wire.proofs.Tests.{by-test}
-use Rattle.wire.proofs.Laws.{length-bytesOf, length-head, length-headed, paste-append, put-size, put-after, put-before, put-head-last}
+use Rattle.put.proofs.Laws.{length-bytesOf, length-head, length-headed, paste-append, put-size, put-after, put-before, put-head-last}
 use Rattle.fields.specs.Fields.{proposalNumber, protocol}
 use Rattle.sets.specs.Parts.{setNumbered, proposal, transformNumbered}
 use Rattle.fields.specs.declared.ProposalNumber.{ProposalNumber}

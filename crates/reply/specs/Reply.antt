@@ -5,7 +5,7 @@ use mathlib.Core.List.{List, [], _∷_, _++_}
 use mathlib.Core.Bool.{Bool, _||_, _&&_}
 use lib.ListN.{length, drop}
 use lib.Dec.{ltb, eqb}
-use Rattle.wire.specs.Wire.{bytesOf, head, headed, paste}
+use Rattle.put.specs.Put.{bytesOf, head, headed, paste}
 use Rattle.wire.specs.Tests.{if_then_else_}
 use Rattle.wire.specs.Answer.{Answer, done, refused}
 use Rattle.fields.specs.Fields.{proposalNumber, protocol}

@@ -7,18 +7,18 @@ use policy::Choice;
 use policy::Transforms;
 use policy::choose::choose;
 use policy::choose::sa_body;
+use put::put_be32;
+use put::put_bytes;
+use put::put_head;
+use put::put_headed;
 use sets::proposal;
 use sets::set_numbered;
 use sets::transform_numbered;
 use wire::after;
-use wire::put_be32;
-use wire::put_bytes;
-use wire::put_head;
-use wire::put_headed;
 ghost use mathlib.Core.Path.{_≡_};
 ghost use Prim.Native.Nat.{_+_, _≤_};
 ghost use lib.ListN.{length};
-ghost use Rattle.wire.specs.Wire.{paste, put};
+ghost use Rattle.put.specs.Put.{paste, put};
 ghost use Rattle.reply.specs.Reply.{ownSpi, fields, proposalOf, proposalReply, setReply, saOf, spiLow, spisLow, choiceRefusal, replied};
 
 // A refusal, or how many bytes were written.

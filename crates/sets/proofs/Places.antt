@@ -7,7 +7,7 @@ use native.Mathlib.Omega.{arith}
 use lib.ListN.{length, getD, take, drop, length-append, List·getD-append, take-append-drop}
 use borrow.Author.Tests.{eq-eqb, ne-eqb}
 use Rattle.wire.specs.Wire.{numberAt}
-use Rattle.offer.specs.Transforms.{transformsCode}
+use Rattle.transforms.specs.Transforms.{transformsCode}
 use Rattle.offer.specs.Proposals.{transformBytes, offerCode}
 use Rattle.offer.proofs.Laws.{Item, Rising, end, on, LawfulTransform, first-transform, after-transform}
 use Rattle.fields.specs.Fields.{proposalNumber, transformCount, transformNumber}

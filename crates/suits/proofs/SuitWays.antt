@@ -10,7 +10,7 @@ use Rattle.wire.specs.Tests.{if_then_else_}
 use Rattle.wire.proofs.Tests.{clash}
 use Rattle.fields.specs.Fields.{transformId, attributesOf, protocol}
 use Rattle.sets.specs.Parts.{transform, proposal, proposalCount}
-use Rattle.book.specs.Book.{mainSeconds, quickProtocols, quickMode, quickSeconds}
+use Rattle.booklines.specs.Lines.{mainSeconds, quickProtocols, quickMode, quickSeconds}
 use Rattle.suits.specs.Suits.{valueIs, nothingSurplus, quickId, lifeWithin, quickIntegrity, mainSuits, quickSuits, transformSuits, lowestFrom, lowest, protocolsAlone, protocolsBoth, protocolsSuit, setSuits}
 
 pub integrity-both : (protocols protocol : ℕ) (attributes : List ℕ) (a b : Bool) → (eqb protocols 2 && eqb protocol 3) ≡ false → a ≡ valueIs 5 20 attributes → b ≡ nothingSurplus 4 attributes → (a && b) ≡ quickIntegrity protocols protocol attributes

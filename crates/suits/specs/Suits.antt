@@ -5,7 +5,7 @@ use mathlib.Core.Bool.{Bool, _||_, _&&_}
 use lib.ListN.{length}
 use lib.Dec.{leb, eqb}
 use Rattle.wire.specs.Tests.{if_then_else_}
-use Rattle.book.specs.Book.{mainSeconds, quickProtocols, quickMode, quickSeconds}
+use Rattle.booklines.specs.Lines.{mainSeconds, quickProtocols, quickMode, quickSeconds}
 use Rattle.attribute.specs.Attributes.{attribute, attributeCount, value}
 use Rattle.fields.specs.Fields.{protocol, transformCount, transformId, attributesOf}
 use Rattle.sets.specs.Parts.{proposal, proposalCount, transform}

@@ -2,10 +2,10 @@
 use attribute::attribute;
 use attribute::attribute_count;
 use attribute::value;
-use book::main_seconds;
-use book::quick_mode;
-use book::quick_protocols;
-use book::quick_seconds;
+use booklines::main_seconds;
+use booklines::quick_mode;
+use booklines::quick_protocols;
+use booklines::quick_seconds;
 use fields::attributes_of;
 use fields::protocol;
 use fields::transform_count;

@@ -22,7 +22,7 @@ fn verdict(s: &[u8]) {
         refused(8193);
         return;
     }
-    let size = book::book_size(s) as usize;
+    let size = booklines::book_size(s) as usize;
     let book = front(s, size);
     let m = after(s, size);
     let read = message::read(m);

@@ -4,7 +4,7 @@ use mathlib.Core.Path.{_≡_}
 use mathlib.Core.List.{List}
 use lib.ListN.{length}
 use borrow.Author.Tests.{le-ltb}
-use Rattle.wire.specs.Wire.{put}
+use Rattle.put.specs.Put.{put}
 use Rattle.writing.specs.Messages.{proposalsOf, longer, tooLong, longerInto}
 use Rattle.writing.specs.declared.Proposals.{Proposals}
 use Rattle.ends.specs.declared.Own.{Own}

@@ -7,10 +7,10 @@ use native.Mathlib.Omega.{arith}
 use lib.ListN.{length, take, drop, replicate, length-take, length-append, length-drop, length-replicate}
 use lib.Dec.{ltb, eqb}
 use borrow.Author.Tests.{eq-eqb, ne-eqb, le-leb, lt-leb, ltb-false}
-use Rattle.wire.specs.Wire.{bytesOf, head, headed, paste, put}
+use Rattle.put.specs.Put.{bytesOf, head, headed, paste, put}
 use Rattle.wire.proofs.Tests.{by-test, neither}
-use Rattle.wire.proofs.Laws.{length-bytesOf, length-headed, paste-append, paste-before, put-size, put-after, put-before}
-use Rattle.book.specs.Book.{quickCount, quickProtocols, quickMode, quickSeconds}
+use Rattle.put.proofs.Laws.{length-bytesOf, length-headed, paste-append, paste-before, put-size, put-after, put-before}
+use Rattle.booklines.specs.Lines.{quickCount, quickProtocols, quickMode, quickSeconds}
 use Rattle.suits.specs.Suits.{quickId}
 use Rattle.reply.specs.Reply.{ownSpi, proposalOf, setReply, saOf}
 use Rattle.reply.proofs.ReplyWays.{proposal-size, set-size, sa-size, sa-written}

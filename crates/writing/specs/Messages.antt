@@ -4,9 +4,9 @@ use mathlib.Core.List.{List, [], _∷_, _++_}
 use mathlib.Core.Bool.{Bool, _||_, _&&_}
 use lib.ListN.{length, take, replicate}
 use lib.Dec.{ltb, leb, eqb}
-use Rattle.wire.specs.Wire.{bytesOf, headed, paste, put}
+use Rattle.put.specs.Put.{bytesOf, headed, paste, put}
 use Rattle.wire.specs.Tests.{if_then_else_}
-use Rattle.book.specs.Book.{quickCount, quickProtocols, quickMode, quickSeconds}
+use Rattle.booklines.specs.Lines.{quickCount, quickProtocols, quickMode, quickSeconds}
 use Rattle.suits.specs.Suits.{quickId}
 use Rattle.reply.specs.Reply.{ownSpi, proposalOf, setReply, saOf}
 use Rattle.policy.specs.declared.Transforms.{Transforms}

@@ -1,23 +1,23 @@
 // The three messages that the ends write.
-use book::quick_count;
-use book::quick_mode;
-use book::quick_protocols;
-use book::quick_seconds;
+use booklines::quick_count;
+use booklines::quick_mode;
+use booklines::quick_protocols;
+use booklines::quick_seconds;
 use ends::Own;
 use fields::ProposalNumber;
 use policy::Transforms;
+use put::put_be32;
+use put::put_bytes;
+use put::put_head;
+use put::put_headed;
 use reply::put_proposal;
 use reply::put_reply;
 use suits::quick_id;
 use wire::front;
-use wire::put_be32;
-use wire::put_bytes;
-use wire::put_head;
-use wire::put_headed;
 ghost use mathlib.Core.Path.{_≡_};
 ghost use Prim.Native.Nat.{min, _+_, _*_, _≤_};
 ghost use lib.ListN.{length, replicate};
-ghost use Rattle.wire.specs.Wire.{bytesOf, paste, put};
+ghost use Rattle.put.specs.Put.{bytesOf, paste, put};
 ghost use Rattle.reply.specs.Reply.{saOf};
 ghost use Rattle.writing.specs.Messages.{padding, lineProposal, lineSet, nextSet, lineSets, lines, bookOf, nonceOf, offerOf, header, around, nonceAndIdentities, proposalsOf, longer, longerInto, messageThree};
 

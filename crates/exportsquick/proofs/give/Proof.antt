@@ -5,8 +5,9 @@ use mathlib.Core.Bool.{true}
 use lib.ListN.{take}
 use borrow.Author.Needs.{needs}
 use Rattle.ends.specs.declared.End.{End}
-use Rattle.quick.specs.declared.StepAnswer.{StepAnswer}
-use Rattle.quick.specs.Ends.{After, delivered}
+use Rattle.steps.specs.declared.StepAnswer.{StepAnswer}
+use Rattle.steps.specs.Steps.{After}
+use Rattle.deliver.specs.Deliver.{delivered}
 use Rattle.exportsquick.specs.Exchanges.{sendSize, given}
 use Rattle.exportsquick.proofs.give.Statement.{statement}
 use Rattle.exportsquick.proofs.give.Tie as tie

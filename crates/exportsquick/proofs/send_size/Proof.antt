@@ -2,8 +2,8 @@
 use Prim.Native.Nat.{ℕ}
 use mathlib.Core.Path.{_≡_}
 use borrow.Author.Needs.{needs}
-use Rattle.quick.specs.declared.StepAnswer.{StepAnswer}
-use Rattle.quick.specs.declared.StepAnswer.the-variants.{Send, Nothing, Refused}
+use Rattle.steps.specs.declared.StepAnswer.{StepAnswer}
+use Rattle.steps.specs.declared.StepAnswer.the-variants.{Send, Nothing, Refused}
 use Rattle.exportsquick.specs.Exchanges.{sendSize}
 use Rattle.exportsquick.proofs.send_size.Statement.{statement}
 use Rattle.exportsquick.proofs.send_size.Tie as tie

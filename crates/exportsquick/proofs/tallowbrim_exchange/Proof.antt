@@ -4,8 +4,8 @@ use mathlib.Core.Path.{_≡_, _∙_}
 use mathlib.Core.List.{List}
 use borrow.Author.Needs.{needs}
 use Rattle.ends.specs.declared.Made.{Made}
-use Rattle.quick.specs.declared.Stepped.{Stepped}
-use Rattle.quick.specs.Ends.{begun}
+use Rattle.steps.specs.declared.Stepped.{Stepped}
+use Rattle.begin.specs.Begin.{begun}
 use Rattle.exportsquick.specs.Exchanges.{stateNumber, given, exchangeLeaves, next, thirdGiven, secondGiven, firstGiven, exchanged}
 use Rattle.exportsquick.proofs.tallowbrim_exchange.Statement.{statement}
 use Rattle.exportsquick.proofs.tallowbrim_exchange.Tie as tie

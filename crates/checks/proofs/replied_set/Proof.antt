@@ -1,8 +1,0 @@
-use Rattle.checks.specs.Checks.{repliedSet}
-use borrow.Author.Needs.{needs}
-use Rattle.checks.proofs.replied_set.Statement.{statement}
-use Rattle.checks.proofs.replied_set.Tie as tie
-
-pub replied-set-spec : {M : Type 1} → statement M
-unfolding repliedSet
-replied-set-spec = tie.close (tie.spec (λ c κs. search needs) (λ c κs. search needs) (λ c. cc))

@@ -1,0 +1,18 @@
+use Rattle.deliver.proofs.Ways.{choice-refused, choice-made}
+use borrow.Author.Needs.{needs}
+use Rattle.deliver.proofs.answer_choice.Statement.{statement}
+use Rattle.deliver.proofs.answer_choice.Tie as tie
+
+pub answer-choice-spec : {M : Type 1} → statement M
+answer-choice-spec =
+    tie.close
+    (tie.spec
+    (λ c. search needs)
+    (λ c κs. search needs)
+    (λ c. search needs)
+    (λ c κs. (search needs, search needs))
+    (λ c. search choice-refused)
+    (λ c. search needs)
+    (λ c. search needs)
+    (λ c. search needs)
+    (λ c. search choice-made))

@@ -1,8 +1,0 @@
-use Rattle.quick.proofs.Ways.{repeat-sent}
-use borrow.Author.Needs.{needs}
-use Rattle.quick.proofs.deliver.repeat.Statement.{statement}
-use Rattle.quick.proofs.deliver.repeat.Tie as tie
-
-pub repeat-spec : {M : Type 1} → statement M
-repeat-spec =
-    tie.close (tie.spec (λ c κs. search needs) (λ c κs. search needs) (λ c κs. search needs) (λ c. search needs) (λ c. search repeat-sent))

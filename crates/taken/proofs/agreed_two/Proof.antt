@@ -1,0 +1,18 @@
+use Rattle.taken.specs.Taken.{agreedTwo}
+use borrow.Author.Needs.{needs}
+use Rattle.taken.proofs.agreed_two.Statement.{statement}
+use Rattle.taken.proofs.agreed_two.Tie as tie
+
+pub agreed-two-spec : {M : Type 1} → statement M
+unfolding agreedTwo
+agreed-two-spec =
+    tie.close
+    (tie.spec
+    (λ c κs. search needs)
+    (λ c κs. search needs)
+    (λ c κs. search needs)
+    (λ c κs. search needs)
+    (λ c κs. search needs)
+    (λ c κs. search needs)
+    (λ c κs. search needs)
+    (λ c. cc))
