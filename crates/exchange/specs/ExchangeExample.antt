@@ -138,7 +138,7 @@ unfolding start bookOne bookTwo firstIdentity secondIdentity nonceOne nonceTwo b
     message.first message.chain message.reading message.counted message.message message.walk message.payloadAt
     parts.skip parts.parts parts.firstItem parts.afterItem parts.setEnd parts.firstSet parts.afterSet parts.numbered parts.set parts.setCount parts.setNumbered parts.proposal parts.proposalCount fields.proposalNumber fields.protocol fields.spi fields.transformCount parts.transform parts.transformNumbered fields.transformNumber fields.transformId fields.attributesOf
     lines.quickStart lines.quickCount lines.bookSize lines.mainSeconds lines.quickAt lines.quickProtocols lines.quickMode lines.quickSeconds books.mainLineLawful books.quickLineLawful books.mainLinesLawful books.quickLinesLawful books.bookInFront
-    suits.present suits.valueIs suits.lifeWithin suits.nothingSurplus suits.quickId suits.quickIntegrity suits.quickSuits suits.transformSuits suits.lowestFrom suits.lowest suits.protocolsAlone suits.protocolsBoth suits.protocolsSuit suits.setSuits
+    suits.present suits.valueIs suits.lifeWithin suits.nothingSurplus suits.quickId suits.quickIntegrity suits.quickSuits suits.suitsLine suits.transformSuits suits.lowestFrom suits.lowest suits.protocolsAlone suits.protocolsBoth suits.protocolsSuit suits.setSuits
     choices.lineCount choices.lineFrom choices.firstLine choices.numberOf choices.transformsOf choices.chosen choices.setFrom choices.chooseFrom choices.bodyAt
     replies.ownSpi replies.fields replies.proposalOf replies.proposalReply replies.setReply replies.saOf
     messages.bookOf messages.nonceOf messages.fixed messages.integrity messages.attributes messages.transformOne messages.lineProposal messages.lineSet messages.nextSet messages.lineSets messages.lines messages.offerOf messages.hash messages.padding messages.padded messages.header messages.messageOf messages.nonceAndIdentities messages.longer messages.proposalsOf messages.messageOne messages.messageTwo messages.messageThree

@@ -20,7 +20,7 @@ use Rattle.sets.proofs.Places.{transform-lawful, transform-by-number}
 use Rattle.booklines.specs.Lines.{quickProtocols}
 use Rattle.policy.specs.Choice.{numberOf}
 use Rattle.policy.proofs.Laws.{First, none, here, lowest-is, HasTransform, transform-low}
-use Rattle.suits.specs.Suits.{present, valueIs, lifeWithin, nothingSurplus, mainValues, mainSuits, quickId, quickIntegrity, quickSuits, transformSuits, lowest, protocolsAlone, protocolsBoth, protocolsSuit}
+use Rattle.suits.specs.Suits.{present, valueIs, lifeWithin, nothingSurplus, mainValues, mainSuits, quickId, quickIntegrity, quickSuits, suitsLine, transformSuits, lowest, protocolsAlone, protocolsBoth, protocolsSuit}
 
 -- ---- a transform that suits is short
 
@@ -112,7 +112,7 @@ known-of exchange wanted h =
     rw (eqb-true exchange 32 (two .0)) (by-test (eqb wanted 2) (λ f. rw (eqb-true wanted 2 f) ah-of) (λ f. rw (eqb-true wanted 3 (rw f at two .1)) esp-of)))
 
 suits-short : {exchange wanted : ℕ} → Known exchange wanted → (i : ℕ) (book p : List ℕ) (k : ℕ) → LawfulTransform exchange (transform k p) → transformSuits exchange i book p k ≡ true → length (transform k p) ≤ 56
-unfolding transformSuits
+unfolding transformSuits suitsLine
 suits-short isakmp i book p k l h = main-short (transform k p) _ l h
 suits-short ah-of i book p k l h = quick-short (transform k p) _ _ _ _ l h
 suits-short esp-of i book p k l h = quick-short (transform k p) _ _ _ _ l h

@@ -48,11 +48,15 @@ quickSuits protocols mode seconds protocol t =
     eqb (transformId t) (quickId protocol) && valueIs 4 mode (attributesOf t) && valueIs 1 1 (attributesOf t) && lifeWithin 2 seconds (attributesOf t)
     && quickIntegrity protocols protocol (attributesOf t)
 
--- "each proposal has a suiting transform": whether transform k of a proposal suits a line of the exchange, the line at place i of the book
+-- whether a transform of this protocol suits a line of the exchange, the line at place i of the book
+unfoldable pub suitsLine : ℕ → ℕ → List ℕ → ℕ → List ℕ → Bool
+suitsLine exchange i book protocol t =
+    if eqb exchange 2 then mainSuits (mainSeconds i book) t
+    else quickSuits (quickProtocols i book) (quickMode i book) (quickSeconds i book) protocol t
+
+-- "each proposal has a suiting transform": whether transform k of a proposal suits the line
 unfoldable pub transformSuits : ℕ → ℕ → List ℕ → List ℕ → ℕ → Bool
-transformSuits exchange i book p k =
-    if eqb exchange 2 then mainSuits (mainSeconds i book) (transform k p)
-    else quickSuits (quickProtocols i book) (quickMode i book) (quickSeconds i book) (protocol p) (transform k p)
+transformSuits exchange i book p k = suitsLine exchange i book (protocol p) (transform k p)
 
 -- the lowest transform that suits: numbers rise, so it is the first; counted from 1 among the n from k on, 0 where none does
 unfoldable pub lowestFrom : ℕ → ℕ → ℕ → ℕ → List ℕ → List ℕ → ℕ

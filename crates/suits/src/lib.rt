@@ -10,12 +10,18 @@ use fields::attributes_of;
 use fields::protocol;
 use fields::transform_count;
 use fields::transform_id;
+use offer::transform_bytes;
 use sets::proposal;
 use sets::proposal_count;
-use sets::transform;
+use wire::after;
+use wire::be16;
+use wire::front;
 ghost use mathlib.Core.Path.{_≡_};
 ghost use Prim.Native.Nat.{_+_, _≤_};
-ghost use Rattle.suits.specs.Suits.{valueIs, lifeWithin, nothingSurplus, mainValues, mainSuits, quickId, quickIntegrity, quickSuits, transformSuits, lowestFrom, lowest, protocolsAlone, protocolsBoth, protocolsSuit, setSuits};
+ghost use Rattle.offer.specs.Proposals.{transformBytes};
+ghost use Rattle.sets.specs.Parts.{skip, afterItem};
+ghost use Rattle.booklines.specs.Lines.{quickProtocols, quickMode, quickSeconds};
+ghost use Rattle.suits.specs.Suits.{valueIs, lifeWithin, nothingSurplus, mainValues, mainSuits, quickId, quickIntegrity, quickSuits, suitsLine, lowestFrom, lowest, protocolsAlone, protocolsBoth, protocolsSuit, setSuits};
 
 fn value_is(kind: u16, wanted: u32, attributes: &[u8]) -> bool
     ensures { λ r. ⌜ r ≡ valueIs kind wanted (now (attributes .entry)) ⌝ }
@@ -74,60 +80,58 @@ fn quick_integrity(protocols: u8, protocol: u8, attributes: &[u8]) -> bool
     }
 }
 
-fn quick_suits(protocols: u8, mode: u8, seconds: u32, protocol: u8, t: &[u8]) -> bool
-    ensures { λ r. ⌜ r ≡ quickSuits protocols mode seconds protocol (now (t .entry)) ⌝ }
+// Whether a transform of a proposal of this protocol suits quick line i.
+fn quick_suits(i: u8, book: &[u8], protocol: u8, t: &[u8]) -> bool
+    ensures { λ r. ⌜ r ≡ quickSuits (quickProtocols i (now (book .entry))) (quickMode i (now (book .entry))) (quickSeconds i (now (book .entry))) protocol (now (t .entry)) ⌝ }
 {
     let attributes = attributes_of(t);
     if transform_id(t) != quick_id(protocol) {
         return false;
     }
-    // Lines differ most in their seconds, so the life is asked first.
-    if !life_within(2, seconds, attributes) {
+    // Lines differ most in their seconds, so the life is asked first, and the rest of the line read only where it suits.
+    if !life_within(2, quick_seconds(i, book), attributes) {
         return false;
     }
-    if !value_is(4, mode as u32, attributes) {
+    if !value_is(4, quick_mode(i, book) as u32, attributes) {
         return false;
     }
     if !value_is(1, 1, attributes) {
         return false;
     }
-    quick_integrity(protocols, protocol, attributes)
+    quick_integrity(quick_protocols(i, book), protocol, attributes)
 }
 
-// Whether transform k of a proposal suits line i of the exchange, both counted from 0.
-fn transform_suits(exchange: u8, i: u8, book: &[u8], p: &[u8], k: u8) -> bool
-    ensures { λ r. ⌜ r ≡ transformSuits exchange i (now (book .entry)) (now (p .entry)) k ⌝ }
+// Whether a transform of this protocol suits line i of the exchange, counted from 0.
+fn suits_line(exchange: u8, i: u8, book: &[u8], protocol: u8, t: &[u8]) -> bool
+    ensures { λ r. ⌜ r ≡ suitsLine exchange i (now (book .entry)) protocol (now (t .entry)) ⌝ }
 {
     if exchange == 2 {
-        return main_suits(main_seconds(i, book), transform(k, p));
+        return main_suits(main_seconds(i, book), t);
     }
-    quick_suits(
-        quick_protocols(i, book),
-        quick_mode(i, book),
-        quick_seconds(i, book),
-        protocol(p),
-        transform(k, p),
-    )
+    quick_suits(i, book, protocol, t)
 }
 
-fn lowest_from(n: u8, k: u8, exchange: u8, i: u8, book: &[u8], p: &[u8]) -> u8
-    requires { ⌜ n + k ≤ 255 ⌝ }
+// The transforms from k on lie in `rest`, so that none is sought again from the first.
+fn lowest_from(n: u8, k: u8, exchange: u8, i: u8, book: &[u8], p: &[u8], rest: &[u8]) -> u8
+    requires { ⌜ (n + k ≤ 255) × (now rest ≡ skip afterItem k (transformBytes (now p))) ⌝ }
     ensures { λ r. ⌜ r ≡ lowestFrom n k exchange i (now (book .entry)) (now (p .entry)) ⌝ }
 {
     if n == 0 {
         return 0;
     }
-    if transform_suits(exchange, i, book, p, k) {
+    let size = be16(rest, 2) as usize;
+    if suits_line(exchange, i, book, protocol(p), front(rest, size)) {
         return k + 1;
     }
-    lowest_from(n - 1, k + 1, exchange, i, book, p)
+    lowest_from(n - 1, k + 1, exchange, i, book, p, after(rest, size))
 }
 
 // The lowest transform of a proposal that suits a line, counted from 1; 0 where none does.
 pub fn lowest(exchange: u8, i: u8, book: &[u8], p: &[u8]) -> u8
     ensures { λ r. ⌜ r ≡ lowest exchange i (now (book .entry)) (now (p .entry)) ⌝ }
 {
-    lowest_from(transform_count(p), 0, exchange, i, book, p)
+    let all = transform_bytes(p);
+    lowest_from(transform_count(p), 0, exchange, i, book, p, all)
 }
 
 fn protocols_alone(wanted: u8, set: &[u8]) -> bool
