@@ -1,10 +1,10 @@
 -- A law for each way out of this crate's functions, and for each turn of their loops.
-use Prim.Native.Nat.{ℕ, suc, _+_, _*_, _≤_, _<_}
+use Prim.Native.Nat.{ℕ, suc, _+_, _-_, _*_, _≤_, _<_}
 use mathlib.Core.Path.{_≡_, refl, sym, ap, _∙_}
 use mathlib.Core.List.{List, [], _∷_}
 use mathlib.Core.Bool.{Bool, true, false, _&&_, and-false}
 use native.Mathlib.Omega.{arith}
-use lib.ListN.{length, getD, drop, drop-of-length-le}
+use lib.ListN.{length, getD, drop, drop-of-length-le, List·getD-eq-default}
 use lib.Dec.{eqb}
 use borrow.Author.Tests.{eq-eqb, ne-eqb}
 use Rattle.wire.specs.Wire.{numberAt, allZero, equal}
@@ -12,15 +12,26 @@ use Rattle.wire.proofs.Laws.{number-join, number-one, number-past, part
 
 -- ---- big-endian numbers
 
+pub none-read : (n : ℕ) (s : List ℕ) (i : ℕ) → length s ≤ i → 0 ≡ numberAt n s i
+none-read n s i h = sym (number-past n s i h)
+
 module _ (s : List ℕ) (i a b : ℕ) where
   pub two-read : a ≡ getD s i 0 → b ≡ getD s (i + 1) 0 → a * 256 + b ≡ numberAt 2 s i
   two-read ea eb = rw (number-join 1 1 s i, number-one s i, number-one s (i + 1)) (omega arith)
 
-  pub four-read : a ≡ numberAt 2 s i → b ≡ numberAt 2 s (i + 2) → a * 65536 + b ≡ numberAt 4 s i
-  four-read ea eb = rw (number-join 2 2 s i) (omega arith)
+  pub half-read : a ≡ numberAt 2 s i → b ≡ numberAt 2 s (i + 2) → a * 65536 + b ≡ numberAt 4 s i
+  half-read ea eb = rw (number-join 2 2 s i) (omega arith)
 
-pub none-read : (n : ℕ) (s : List ℕ) (i : ℕ) → length s ≤ i → 0 ≡ numberAt n s i
-none-read n s i h = sym (number-past n s i h)
+pub one-read : (s : List ℕ) (i a : ℕ) → i < length s → length s - i < 2 → a ≡ getD s i 0 → a * 256 ≡ numberAt 2 s i
+one-read s i a l h ea =
+    let short : length s ≤ i + 1 = omega arith in
+    omega (arith, two-read s i a 0 ea (sym (List·getD-eq-default s 0 short)))
+
+pub four-read : (s : List ℕ) (i a b c d : ℕ) → a ≡ getD s i 0 → b ≡ getD s (i + 1) 0 → c ≡ getD s (i + 2) 0 → d ≡ getD s (i + 3) 0 → a * 16777216 + b * 65536 + c * 256 + d ≡ numberAt 4 s i
+four-read s i a b c d ea eb ec ed =
+    let last : i + 3 ≡ i + 2 + 1 = omega arith in
+    let low = two-read s (i + 2) c d ec (ed ∙ ap (λ (k : ℕ). getD s k 0) last) in
+    omega (arith, half-read s i (a * 256 + b) (c * 256 + d) (two-read s i a b ea eb) low)
 
 -- ---- loops
 

@@ -15,22 +15,30 @@ pub fn byte(s: &[u8], at: usize) -> u8
 pub fn be16(s: &[u8], at: usize) -> u16
     ensures { λ r. ⌜ r ≡ numberAt 2 (now (s .entry)) at ⌝ }
 {
-    if at < s.len() {
-        byte(s, at) as u16 * 256 + byte(s, at + 1) as u16
-    } else {
-        0
+    if s.len() <= at {
+        return 0;
     }
+    if s.len() - at < 2 {
+        return byte(s, at) as u16 * 256;
+    }
+    // A whole number is read with no further test.
+    byte(s, at) as u16 * 256 + byte(s, at + 1) as u16
 }
 
 // The 32-bit number at a place.
 pub fn be32(s: &[u8], at: usize) -> u32
     ensures { λ r. ⌜ r ≡ numberAt 4 (now (s .entry)) at ⌝ }
 {
-    if at < s.len() {
-        be16(s, at) as u32 * 65536 + be16(s, at + 2) as u32
-    } else {
-        0
+    if s.len() <= at {
+        return 0;
     }
+    if s.len() - at < 4 {
+        return be16(s, at) as u32 * 65536 + be16(s, at + 2) as u32;
+    }
+    byte(s, at) as u32 * 16777216
+        + byte(s, at + 1) as u32 * 65536
+        + byte(s, at + 2) as u32 * 256
+        + byte(s, at + 3) as u32
 }
 
 // The first n bytes; all, where there are fewer.

@@ -1,5 +1,5 @@
 use borrow.Author.Needs.{needs}
-use Rattle.wire.proofs.Ways.{two-read, none-read}
+use Rattle.wire.proofs.Ways.{none-read, one-read, two-read}
 use Rattle.wire.proofs.be16.Statement.{statement}
 use Rattle.wire.proofs.be16.Tie as tie
 
@@ -7,6 +7,12 @@ pub be16-spec : {M : Type 1} → statement M
 be16-spec =
     tie.close
     (tie.spec
+    (λ c. search none-read)
+    (λ c. search needs)
+    (λ c κs. search needs)
+    (λ c. search needs)
+    (λ c. search needs)
+    (λ c. search one-read)
     (λ c κs. search needs)
     (λ c. search needs)
     (λ c. search needs)
@@ -14,5 +20,4 @@ be16-spec =
     (λ c κs. search needs)
     (λ c. search needs)
     (λ c. search needs)
-    (λ c. search two-read)
-    (λ c. search none-read))
+    (λ c. search two-read))

@@ -1,5 +1,5 @@
 use borrow.Author.Needs.{needs}
-use Rattle.wire.proofs.Ways.{four-read, none-read}
+use Rattle.wire.proofs.Ways.{none-read, half-read, four-read}
 use Rattle.wire.proofs.be32.Statement.{statement}
 use Rattle.wire.proofs.be32.Tie as tie
 
@@ -7,6 +7,16 @@ pub be32-spec : {M : Type 1} → statement M
 be32-spec =
     tie.close
     (tie.spec
+    (λ c. search none-read)
+    (λ c. search needs)
+    (λ c κs. search needs)
+    (λ c. search needs)
+    (λ c. search needs)
+    (λ c. search needs)
+    (λ c κs. search needs)
+    (λ c. search needs)
+    (λ c. search needs)
+    (λ c. search half-read)
     (λ c κs. search needs)
     (λ c. search needs)
     (λ c. search needs)
@@ -14,5 +24,14 @@ be32-spec =
     (λ c κs. search needs)
     (λ c. search needs)
     (λ c. search needs)
-    (λ c. search four-read)
-    (λ c. search none-read))
+    (λ c. search needs)
+    (λ c. search needs)
+    (λ c κs. search needs)
+    (λ c. search needs)
+    (λ c. search needs)
+    (λ c. search needs)
+    (λ c. search needs)
+    (λ c κs. search needs)
+    (λ c. search needs)
+    (λ c. search needs)
+    (λ c. search four-read))
