@@ -4,20 +4,22 @@ use mathlib.Core.Path.{_≡_, refl, sym, ap, _∙_}
 use mathlib.Core.List.{List, []}
 use mathlib.Core.Bool.{Bool, true, false, not, _||_, _&&_}
 use native.Mathlib.Omega.{arith}
-use lib.ListN.{length, getD, take, drop, length-take, length-drop}
+use lib.ListN.{length, getD, take, drop}
 use lib.Dec.{eqb, ltb}
 use borrow.Author.Tests.{eq-eqb, ne-eqb, eqb-false, ltb-false, not-true}
 use Rattle.wire.specs.Wire.{numberAt}
 use Rattle.put.specs.Put.{paste, put}
 use Rattle.wire.specs.Tests.{if_then_else_}
 use Rattle.put.proofs.Laws.{put-size, put-made}
+use Rattle.wire.proofs.Laws.{take-within, drop-within}
 use Rattle.wire.proofs.Tests.{by-test, passed}
 use Rattle.header.specs.Header.{headerCode, exchangeOf, flagsOf, firstPayload}
 use Rattle.message.specs.Payloads.{payloadCode, restCode}
 use Rattle.message.specs.Message.{Reading, refused, payloads, first, chain, reading, counted, message, payloadAt}
 use Rattle.message.specs.declared.Payload.{Payload}
 use Rattle.message.specs.declared.Message.{Message}
-use Rattle.sets.specs.Parts.{setEnd, firstSet, afterSet, numbered, setNumbered}
+use Rattle.sets.specs.Parts.{setNumbered}
+use Rattle.sets.proofs.Laws.{set-within}
 use Rattle.fields.specs.declared.ProposalNumber.{ProposalNumber}
 use Rattle.policy.specs.Choice.{bodyAt, chooseFrom}
 use Rattle.policy.specs.declared.LineNumber.{LineNumber}
@@ -43,21 +45,7 @@ use Rattle.ends.specs.declared.End.{End}
 use Rattle.steps.specs.declared.StepAnswer.the-variants.{Send, Nothing, Refused}
 use Rattle.steps.specs.declared.Stepped.{Stepped}
 
--- ---- parts are no longer than the whole
-
-module _ (n : ℕ) (s : List ℕ) where
-  take-within : length (take n s) ≤ length s
-  take-within = omega (arith, length-take n s)
-
-  drop-within : length (drop n s) ≤ length s
-  drop-within = omega (arith, length-drop n s)
-
-sets-within : (left number : ℕ) (s : List ℕ) → length (numbered firstSet afterSet left number s) ≤ length s
-unfolding numbered firstSet afterSet
-sets-within zero number s = omega arith
-sets-within (suc left) number s =
-    by-test (eqb (getD s 4 0) number) (λ e. rw e (take-within (setEnd 16 (getD s 4 0) s 0) s))
-    (λ e. rw e (omega (arith, sets-within left number (drop (setEnd 16 (getD s 4 0) s 0) s), drop-within (setEnd 16 (getD s 4 0) s 0) s)))
+-- ---- parts of a message that is taken fit
 
 body-within : (k : ℕ) (m : List ℕ) → length (bodyAt k m) ≤ length m
 unfolding bodyAt
@@ -70,10 +58,8 @@ body-within k m =
     )
 
 module _ (m : List ℕ) where
-  pub set-within : length m ≤ 2048 → (number : ProposalNumber) (body s : List ℕ) → body ≡ bodyAt 1 m → s ≡ setNumbered number body → length s ≤ 2048
-  unfolding setNumbered
-  set-within h number body s eb es =
-      omega (arith, ap length es, ap length eb, sets-within 16 (number .0) (drop 8 body), drop-within 8 body, body-within 1 m)
+  pub set-fits : length m ≤ 2048 → (number : ProposalNumber) (body s : List ℕ) → body ≡ bodyAt 1 m → s ≡ setNumbered number body → length s ≤ 2048
+  set-fits h number body s eb es = omega (arith, ap length es, ap length eb, set-within number body, body-within 1 m)
 
   identity-within : length m ≤ 2048 → (k : ℕ) (s : List ℕ) → s ≡ identityAt k m → length s ≤ 4096
   unfolding identityAt

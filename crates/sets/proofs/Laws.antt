@@ -11,9 +11,10 @@ use borrow.Author.Tests.{eqb-true, eqb-false, eq-eqb, lt-ltb, le-ltb}
 use Rattle.wire.specs.Wire.{numberAt}
 use Rattle.wire.specs.Tests.{if_then_else_}
 use Rattle.wire.proofs.Tests.{by-test}
-use Rattle.wire.proofs.Laws.{number-append, number-append-add}
+use Rattle.wire.proofs.Laws.{number-append, number-append-add, take-within, drop-within}
 use Rattle.offer.specs.Proposals.{transformBytes, offerCode}
-use Rattle.sets.specs.Parts.{skip, firstItem, afterItem, setEnd, firstSet, afterSet, numbered, proposal, transformNumbered}
+use Rattle.sets.specs.Parts.{skip, firstItem, afterItem, setEnd, firstSet, afterSet, numbered, setNumbered, proposal, transformNumbered}
+use Rattle.fields.specs.declared.ProposalNumber.{ProposalNumber}
 use Rattle.fields.specs.declared.TransformNumber.{TransformNumber}
 use Rattle.offer.proofs.Laws.{Item, Rising, end, on, offer-reads}
 
@@ -204,13 +205,6 @@ parted exchange body h =
 
 -- ---- parts are no longer than the whole
 
-module _ (n : ℕ) (s : List ℕ) where
-  take-within : length (take n s) ≤ length s
-  take-within = omega (arith, length-take n s)
-
-  drop-within : length (drop n s) ≤ length s
-  drop-within = omega (arith, length-drop n s)
-
 numbered-within : (first rest : List ℕ → List ℕ) → ((s : List ℕ) → length (first s) ≤ length s) → ((s : List ℕ) → length (rest s) ≤ length s) →
     (left number : ℕ) (s : List ℕ) → length (numbered first rest left number s) ≤ length s
 unfolding numbered
@@ -230,6 +224,15 @@ pub transform-within : (number : TransformNumber) (p : List ℕ) → length (tra
 unfolding transformNumbered transformBytes
 transform-within number p =
     omega (arith, numbered-within firstItem afterItem first-within after-within 8 (number .0) (transformBytes p), drop-within (8 + getD p 6 0) (take (numberAt 2 p 2) p), take-within (numberAt 2 p 2) p)
+
+pub set-within : (number : ProposalNumber) (body : List ℕ) → length (setNumbered number body) ≤ length body
+unfolding setNumbered firstSet afterSet
+set-within number body =
+    omega (
+      arith,
+      numbered-within firstSet afterSet (λ s. take-within (setEnd 16 (getD s 4 0) s 0) s) (λ s. drop-within (setEnd 16 (getD s 4 0) s 0) s) 16 (number .0) (drop 8 body),
+      drop-within 8 body,
+    )
 
 -- the first two proposals lie one behind the other
 pub two-within : (s : List ℕ) → length (proposal 0 s) + length (proposal 1 s) ≤ length s

@@ -6,7 +6,7 @@ use mathlib.Core.Bool.{true}
 use native.Mathlib.Omega.{arith}
 use native.Mathlib.Numerals.{add-one}
 use native.Mathlib.Nat.{add-zero, add-suc, add-assoc, mul-assoc, pow-suc}
-use lib.ListN.{length, getD, take, drop, replicate, List·getD-eq-default, List·getD-append}
+use lib.ListN.{length, getD, take, drop, replicate, length-take, length-drop, List·getD-eq-default, List·getD-append}
 use lib.Seq.{drop-cons, getD-drop, getD-take, getD-append-add}
 use lib.Dec.{eqb}
 use borrow.Author.Tests.{eqb-true, eq-eqb}
@@ -58,6 +58,14 @@ number-one s i = rw add-zero (omega arith)
 -- the part from i on, as its first byte and the part from the code's i + 1 on
 pub part-next : (s : List ℕ) (i : ℕ) → i < length s → drop i s ≡ getD s i 0 ∷ drop (i + 1) s
 part-next s i h = rw add-one (drop-cons s i 0 h)
+
+-- a part is no longer than the whole
+module _ (n : ℕ) (s : List ℕ) where
+  pub take-within : length (take n s) ≤ length s
+  take-within = omega (arith, length-take n s)
+
+  pub drop-within : length (drop n s) ≤ length s
+  drop-within = omega (arith, length-drop n s)
 
 -- ---- comparisons
 

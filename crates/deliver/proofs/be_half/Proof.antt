@@ -1,4 +1,4 @@
-use Rattle.deliver.proofs.Ways.{halfway-two, set-within}
+use Rattle.deliver.proofs.Ways.{halfway-two, set-fits}
 use borrow.Author.Needs.{needs}
 use Rattle.deliver.proofs.be_half.Statement.{statement}
 use Rattle.deliver.proofs.be_half.Tie as tie
@@ -12,8 +12,8 @@ be-half-spec =
     (λ c κs. search needs)
     (λ c κs. search needs)
     (λ c κs. search needs)
-    (λ c κs. (search set-within, search needs, search needs))
-    (λ c κs. (search set-within, search needs, search needs))
+    (λ c κs. (search set-fits, search needs, search needs))
+    (λ c κs. (search set-fits, search needs, search needs))
     (λ c κs. search needs)
     (λ c. search needs)
     (λ c. search needs)
