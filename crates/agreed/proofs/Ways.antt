@@ -5,7 +5,7 @@ use mathlib.Core.List.{List}
 use borrow.Author.Tests.{eq-eqb, ne-eqb}
 use Rattle.wire.specs.Wire.{numberAt}
 use Rattle.fields.specs.Fields.{protocol, transformNumber}
-use Rattle.sets.specs.Parts.{proposal, proposalCount, transform}
+use Rattle.items.specs.Items.{proposal, proposalCount, transform}
 use Rattle.fields.specs.declared.TransformNumber.{TransformNumber}
 use Rattle.policy.specs.declared.Transforms.the-variants.{One, Two}
 use Rattle.agreed.specs.Agreed.{spisOf, transformsIn, spiFor, ownSpis}

@@ -5,7 +5,7 @@ use lib.Dec.{eqb}
 use Rattle.wire.specs.Wire.{numberAt}
 use Rattle.wire.specs.Tests.{if_then_else_}
 use Rattle.fields.specs.Fields.{protocol, transformNumber}
-use Rattle.sets.specs.Parts.{proposal, proposalCount, transform}
+use Rattle.items.specs.Items.{proposal, proposalCount, transform}
 use Rattle.policy.specs.declared.Transforms.{Transforms}
 use Rattle.policy.specs.declared.Transforms.the-variants.{One, Two}
 use Rattle.ends.specs.declared.Spis.{Spis}

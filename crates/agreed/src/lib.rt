@@ -2,10 +2,10 @@
 use ends::Spis;
 use fields::protocol;
 use fields::transform_number;
+use items::proposal;
+use items::proposal_count;
+use items::transform;
 use policy::Transforms;
-use sets::proposal;
-use sets::proposal_count;
-use sets::transform;
 use wire::be32;
 ghost use mathlib.Core.Path.{_≡_};
 ghost use Rattle.agreed.specs.Agreed.{spisOf, transformsIn, spiFor, ownSpis};

@@ -18,7 +18,7 @@ use Rattle.message.specs.Payloads.{payloadCode, restCode}
 use Rattle.message.specs.Message.{Reading, refused, payloads, first, chain, reading, counted, message, payloadAt}
 use Rattle.message.specs.declared.Payload.{Payload}
 use Rattle.message.specs.declared.Message.{Message}
-use Rattle.sets.specs.Parts.{setNumbered}
+use Rattle.sets.specs.Sets.{setNumbered}
 use Rattle.sets.proofs.Laws.{set-within}
 use Rattle.fields.specs.declared.ProposalNumber.{ProposalNumber}
 use Rattle.policy.specs.Choice.{bodyAt, chooseFrom}

@@ -8,7 +8,7 @@ use Rattle.wire.specs.Wire.{numberAt}
 use Rattle.put.specs.Put.{paste}
 use Rattle.wire.specs.Tests.{if_then_else_}
 use Rattle.message.specs.Message.{message}
-use Rattle.sets.specs.Parts.{setNumbered}
+use Rattle.sets.specs.Sets.{setNumbered}
 use Rattle.fields.specs.declared.ProposalNumber.{ProposalNumber}
 use Rattle.policy.specs.Choice.{bodyAt, chooseFrom}
 use Rattle.policy.specs.declared.Transforms.{Transforms}

@@ -42,7 +42,7 @@ ghost use Rattle.put.specs.Put.{put};
 ghost use Rattle.wire.specs.Tests.{if_then_else_};
 ghost use Rattle.steps.specs.declared.StepAnswer.the-variants.{Refused};
 ghost use Rattle.ends.specs.declared.State.the-variants.{Idle, Sent, Half};
-ghost use Rattle.sets.specs.Parts.{setNumbered};
+ghost use Rattle.sets.specs.Sets.{setNumbered};
 ghost use Rattle.policy.specs.Choice.{bodyAt};
 ghost use Rattle.writing.specs.Messages.{messageTwo};
 ghost use Rattle.shapes.specs.Shapes.{shapeOf};

@@ -16,7 +16,8 @@ use Rattle.header.specs.Header as header
 use Rattle.message.specs.Payloads as payloads
 use Rattle.message.specs.Message as message
 use Rattle.fields.specs.Fields as fields
-use Rattle.sets.specs.Parts as parts
+use Rattle.items.specs.Items as items
+use Rattle.sets.specs.Sets as sets
 use Rattle.booklines.specs.Lines as lines
 use Rattle.book.specs.Book as books
 use Rattle.suits.specs.Suits as suits
@@ -80,7 +81,7 @@ messageFirst = messages.messageOne (start .initiator .end .own) 7 firstIdentity 
 
 unfoldable pub messageSecond : List ℕ
 messageSecond =
-    messages.messageTwo (start .responder .end .own) 7 (Two (record { 0 = 1 }) (record { 0 = 1 })) (parts.setNumbered (record { 0 = 2 }) (choices.bodyAt 1 messageFirst)) firstIdentity secondIdentity
+    messages.messageTwo (start .responder .end .own) 7 (Two (record { 0 = 1 }) (record { 0 = 1 })) (sets.setNumbered (record { 0 = 2 }) (choices.bodyAt 1 messageFirst)) firstIdentity secondIdentity
 
 unfoldable pub messageThird : List ℕ
 messageThird = messages.messageThree (start .initiator .end .own) 7
@@ -136,7 +137,7 @@ unfolding start bookOne bookTwo firstIdentity secondIdentity nonceOne nonceTwo b
     identities.quickData identities.portZero identities.lawful identities.identity
     payloads.typeWrong payloads.lengthOut payloads.hashCode payloads.nonceCode payloads.bodyCode payloads.bodyOf payloads.payloadCode payloads.restCode
     message.first message.chain message.reading message.counted message.message message.walk message.payloadAt
-    parts.skip parts.parts parts.firstItem parts.afterItem parts.setEnd parts.firstSet parts.afterSet parts.numbered parts.set parts.setCount parts.setNumbered parts.proposal parts.proposalCount fields.proposalNumber fields.protocol fields.spi fields.transformCount parts.transform parts.transformNumbered fields.transformNumber fields.transformId fields.attributesOf
+    items.skip items.parts items.firstItem items.afterItem sets.setEnd sets.firstSet sets.afterSet items.numbered sets.set sets.setCount sets.setNumbered items.proposal items.proposalCount fields.proposalNumber fields.protocol fields.spi fields.transformCount items.transform items.transformNumbered fields.transformNumber fields.transformId fields.attributesOf
     lines.quickStart lines.quickCount lines.bookSize lines.mainSeconds lines.quickAt lines.quickProtocols lines.quickMode lines.quickSeconds books.mainLineLawful books.quickLineLawful books.mainLinesLawful books.quickLinesLawful books.bookInFront
     suits.present suits.valueIs suits.lifeWithin suits.nothingSurplus suits.quickId suits.quickIntegrity suits.quickSuits suits.suitsLine suits.transformSuits suits.lowestFrom suits.lowest suits.protocolsAlone suits.protocolsBoth suits.protocolsSuit suits.setSuits
     choices.lineCount choices.lineFrom choices.firstLine choices.numberOf choices.transformsOf choices.chosen choices.setFrom choices.chooseFrom choices.bodyAt

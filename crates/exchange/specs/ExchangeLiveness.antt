@@ -11,7 +11,7 @@ use borrow.Author.Tests.{eq-eqb}
 use Rattle.wire.specs.Wire.{numberAt}
 use Rattle.put.specs.Put.{paste}
 use Rattle.wire.proofs.Tests.{never, clash, both, by-test}
-use Rattle.sets.specs.Parts.{setNumbered}
+use Rattle.sets.specs.Sets.{setNumbered}
 use Rattle.policy.specs.Choice.{bodyAt, chooseFrom}
 use Rattle.policy.specs.declared.Choice.the-variants.{Chosen}
 use Rattle.message.specs.Message.{message}

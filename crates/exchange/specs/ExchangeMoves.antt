@@ -14,7 +14,7 @@ use Rattle.wire.specs.Tests.{if_then_else_}
 use Rattle.wire.proofs.Tests.{never, clash, both, neither, by-test, passed}
 use Rattle.put.proofs.Laws.{paste-inside}
 use Rattle.identity.specs.Identity.{identity}
-use Rattle.sets.specs.Parts.{setNumbered}
+use Rattle.sets.specs.Sets.{setNumbered}
 use Rattle.policy.specs.Choice.{bodyAt, chooseFrom}
 use Rattle.policy.specs.declared.Choice.{Choice}
 use Rattle.policy.specs.declared.Choice.the-variants as choices

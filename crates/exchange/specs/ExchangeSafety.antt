@@ -8,7 +8,7 @@ use lib.ListN.{length}
 use Rattle.put.specs.Put.{paste}
 use Rattle.wire.proofs.Tests.{never, clash}
 use Rattle.put.proofs.Laws.{length-paste}
-use Rattle.sets.specs.Parts.{setNumbered}
+use Rattle.sets.specs.Sets.{setNumbered}
 use Rattle.policy.specs.Choice.{bodyAt}
 use Rattle.reply.specs.Reply.{setReply}
 use Rattle.writing.specs.Messages.{nonceOf, offerOf, messageThree}

@@ -7,7 +7,7 @@ use lib.ListN.{length}
 use Rattle.wire.specs.Wire.{numberAt}
 use Rattle.message.specs.Message.{message}
 use Rattle.message.specs.declared.Message.the-variants.{Read}
-use Rattle.sets.specs.Parts.{setNumbered}
+use Rattle.sets.specs.Sets.{setNumbered}
 use Rattle.policy.specs.Choice.{bodyAt}
 use Rattle.reply.specs.Reply.{setReply}
 use Rattle.writing.specs.Messages.{offerOf, proposalsOf, messageOne, messageTwo, messageThree}

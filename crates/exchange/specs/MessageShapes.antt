@@ -20,7 +20,7 @@ use Rattle.writing.specs.Messages.{bookOf, nonceOf, lines, messageOne, messageT
 use Rattle.shapes.specs.Shapes.{shapeOf, nonceIn, alike}
 use Rattle.deliver.specs.Deliver.{identityAt}
 use Rattle.ends.specs.declared.Own.{Own}
-use Rattle.sets.specs.Parts.{setNumbered}
+use Rattle.sets.specs.Sets.{setNumbered}
 use Rattle.fields.specs.declared.ProposalNumber.{ProposalNumber}
 use Rattle.policy.specs.declared.LineNumber.{LineNumber}
 use Rattle.policy.specs.declared.Transforms.{Transforms}

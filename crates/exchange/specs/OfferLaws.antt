@@ -21,7 +21,8 @@ use Rattle.offer.specs.Proposals as proposals
 use Rattle.offer.proofs.Laws.{Item, Rising, end, on, LawfulTransform}
 use Rattle.offer.proofs.Written.{proposed, Keyed, keyed, Writes, alone-transforms, proposed-size, proposed-code, proposed-lawful, order-first, last-proposal, more-proposals}
 use Rattle.fields.specs.Fields.{transformCount}
-use Rattle.sets.specs.Parts.{skip, parts, firstItem, setEnd, firstSet, afterSet, set, setCount, proposal, proposalCount, transform}
+use Rattle.items.specs.Items.{skip, parts, firstItem, proposal, proposalCount, transform}
+use Rattle.sets.specs.Sets.{setEnd, firstSet, afterSet, set, setCount}
 use Rattle.sets.proofs.Laws.{Same, same-end, same-on}
 use Rattle.sets.proofs.Places.{proposals-count, proposals-place}
 use Rattle.booklines.specs.Lines.{quickProtocols, quickMode, quickSeconds}

@@ -19,7 +19,8 @@ use Rattle.offer.specs.Proposals.{proposalsCode, offerCode}
 use Rattle.offer.specs.Proposals as proposals
 use Rattle.offer.proofs.Written.{offer-right}
 use Rattle.fields.specs.Fields.{proposalNumber, protocol, spi, transformCount}
-use Rattle.sets.specs.Parts.{set, setCount, setNumbered, proposal, proposalCount, transform}
+use Rattle.sets.specs.Sets.{set, setCount, setNumbered}
+use Rattle.items.specs.Items.{proposal, proposalCount, transform}
 use Rattle.fields.specs.declared.ProposalNumber.{ProposalNumber}
 use Rattle.sets.proofs.Places.{LawfulSet, set-lawful, set-by-number, transform-lawful}
 use Rattle.suits.specs.Suits.{lowest}

@@ -13,7 +13,7 @@ use Rattle.message.specs.declared.Message.the-variants as read
 use Rattle.book.specs.Book.{bookRead}
 use Rattle.book.specs.declared.Book.{Book}
 use Rattle.book.specs.declared.Book.the-variants as books
-use Rattle.sets.specs.Parts.{setNumbered}
+use Rattle.sets.specs.Sets.{setNumbered}
 use Rattle.fields.specs.declared.ProposalNumber.{ProposalNumber}
 use Rattle.policy.specs.Choice.{saFrom, messageChoice, bookChoice, choice}
 use Rattle.policy.specs.declared.LineNumber.{LineNumber}

@@ -12,7 +12,8 @@ use Rattle.wire.proofs.Tests.{never, by-test}
 use Rattle.wire.proofs.Laws.{number-drop}
 use Rattle.offer.specs.Proposals.{offerCode}
 use Rattle.fields.specs.Fields.{proposalNumber}
-use Rattle.sets.specs.Parts.{set, setCount, setNumbered, proposal}
+use Rattle.sets.specs.Sets.{set, setCount, setNumbered}
+use Rattle.items.specs.Items.{proposal}
 use Rattle.fields.specs.declared.ProposalNumber.{ProposalNumber}
 use Rattle.sets.proofs.Places.{LawfulSet, set-lawful, set-by-number}
 use Rattle.header.specs.Header.{exchangeOf, firstPayload}

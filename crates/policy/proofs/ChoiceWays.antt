@@ -13,7 +13,8 @@ use Rattle.message.specs.Message.{message, payloadAt}
 use Rattle.message.specs.declared.Message.{Message}
 use Rattle.message.specs.declared.Message.the-variants as read
 use Rattle.message.specs.declared.Payload.{Payload}
-use Rattle.sets.specs.Parts.{set, proposal, proposalCount}
+use Rattle.sets.specs.Sets.{set}
+use Rattle.items.specs.Items.{proposal, proposalCount}
 use Rattle.fields.specs.declared.TransformNumber.{TransformNumber}
 use Rattle.booklines.specs.Lines.{mainCount, quickCount, bookSize}
 use Rattle.book.specs.Book.{bookInFront, bookRead}

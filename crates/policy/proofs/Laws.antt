@@ -10,7 +10,8 @@ use borrow.Author.Tests.{eqb-true, eq-eqb, ne-eqb, leb-true, leb-false, le-leb}
 use Rattle.wire.specs.Tests.{if_then_else_}
 use Rattle.wire.proofs.Tests.{clash, both, by-test}
 use Rattle.fields.specs.Fields.{transformCount}
-use Rattle.sets.specs.Parts.{set, setCount, proposal, proposalCount}
+use Rattle.sets.specs.Sets.{set, setCount}
+use Rattle.items.specs.Items.{proposal, proposalCount}
 use Rattle.booklines.specs.Lines.{quickProtocols}
 use Rattle.suits.specs.Suits.{transformSuits, lowestFrom, lowest, protocolsAlone, protocolsBoth, protocolsSuit, setSuits}
 use Rattle.policy.specs.Choice.{lineCount, lineFrom, firstLine, chosen, setFrom, chooseFrom}

@@ -15,7 +15,7 @@ use Rattle.attribute.proofs.Laws.{wantedTimes, apart, allShort, allThere, wante
 use Rattle.offer.specs.Proposals.{protocolWrong}
 use Rattle.offer.proofs.Laws.{Item, LawfulTransform}
 use Rattle.fields.specs.Fields.{protocol, transformCount, transformId, attributesOf}
-use Rattle.sets.specs.Parts.{proposal, proposalCount, transform, transformNumbered}
+use Rattle.items.specs.Items.{proposal, proposalCount, transform, transformNumbered}
 use Rattle.sets.proofs.Places.{transform-lawful, transform-by-number}
 use Rattle.booklines.specs.Lines.{quickProtocols}
 use Rattle.policy.specs.Choice.{numberOf}

@@ -10,7 +10,8 @@ use Rattle.message.specs.Message.{message, payloadAt}
 use Rattle.message.specs.declared.Message.{Message}
 use Rattle.message.specs.declared.Message.the-variants as read
 use Rattle.fields.specs.Fields.{proposalNumber, transformNumber}
-use Rattle.sets.specs.Parts.{set, setCount, proposal, proposalCount, transform}
+use Rattle.sets.specs.Sets.{set, setCount}
+use Rattle.items.specs.Items.{proposal, proposalCount, transform}
 use Rattle.fields.specs.declared.TransformNumber.{TransformNumber}
 use Rattle.booklines.specs.Lines.{mainCount, quickCount}
 use Rattle.book.specs.Book.{bookRead}

@@ -16,7 +16,8 @@ use Rattle.wire.proofs.Tests.{never, clash}
 use Rattle.message.specs.Message.{message}
 use Rattle.message.specs.declared.Message.the-variants as read
 use Rattle.fields.specs.Fields.{transformCount}
-use Rattle.sets.specs.Parts.{set, setCount, proposal}
+use Rattle.sets.specs.Sets.{set, setCount}
+use Rattle.items.specs.Items.{proposal}
 use Rattle.book.specs.Book.{bookRead, answer as bookAnswer}
 use Rattle.suits.specs.Suits.{transformSuits, lowest, setSuits}
 use Rattle.policy.specs.Choice.{lineCount, chosen, chooseFrom, saFrom, messageChoice, bookChoice, choice, answer}

@@ -68,10 +68,10 @@ use Rattle.sets.proofs.set_count.Kinds as sets-set-count-kinds
 use Rattle.sets.proofs.set_count.Reads as sets-set-count-reads
 use Rattle.sets.proofs.set_numbered.Kinds as sets-set-numbered-kinds
 use Rattle.sets.proofs.set_numbered.Reads as sets-set-numbered-reads
-use Rattle.sets.proofs.proposal.Kinds as sets-proposal-kinds
-use Rattle.sets.proofs.proposal.Reads as sets-proposal-reads
-use Rattle.sets.proofs.proposal_count.Kinds as sets-proposal-count-kinds
-use Rattle.sets.proofs.proposal_count.Reads as sets-proposal-count-reads
+use Rattle.items.proofs.proposal.Kinds as items-proposal-kinds
+use Rattle.items.proofs.proposal.Reads as items-proposal-reads
+use Rattle.items.proofs.proposal_count.Kinds as items-proposal-count-kinds
+use Rattle.items.proofs.proposal_count.Reads as items-proposal-count-reads
 use Rattle.fields.proofs.proposal_number.Kinds as fields-proposal-number-kinds
 use Rattle.fields.proofs.proposal_number.Reads as fields-proposal-number-reads
 use Rattle.fields.proofs.protocol.Kinds as fields-protocol-kinds
@@ -80,10 +80,10 @@ use Rattle.fields.proofs.spi.Kinds as fields-spi-kinds
 use Rattle.fields.proofs.spi.Reads as fields-spi-reads
 use Rattle.fields.proofs.transform_count.Kinds as fields-transform-count-kinds
 use Rattle.fields.proofs.transform_count.Reads as fields-transform-count-reads
-use Rattle.sets.proofs.transform.Kinds as sets-transform-kinds
-use Rattle.sets.proofs.transform.Reads as sets-transform-reads
-use Rattle.sets.proofs.transform_numbered.Kinds as sets-transform-numbered-kinds
-use Rattle.sets.proofs.transform_numbered.Reads as sets-transform-numbered-reads
+use Rattle.items.proofs.transform.Kinds as items-transform-kinds
+use Rattle.items.proofs.transform.Reads as items-transform-reads
+use Rattle.items.proofs.transform_numbered.Kinds as items-transform-numbered-kinds
+use Rattle.items.proofs.transform_numbered.Reads as items-transform-numbered-reads
 use Rattle.fields.proofs.transform_number.Kinds as fields-transform-number-kinds
 use Rattle.fields.proofs.transform_number.Reads as fields-transform-number-reads
 use Rattle.fields.proofs.transform_id.Kinds as fields-transform-id-kinds
@@ -323,11 +323,11 @@ sets-set-count κs arguments x y s t p q = p ∙ sym q
 pub sets-set-numbered : OneAnswer 1 sets-set-numbered-kinds.ps sets-set-numbered-kinds.r (λ κs x s. now x) sets-set-numbered-reads.Post
 sets-set-numbered κs arguments x y s t p q = p ∙ sym q
 
-pub sets-proposal : OneAnswer 1 sets-proposal-kinds.ps sets-proposal-kinds.r (λ κs x s. now x) sets-proposal-reads.Post
-sets-proposal κs arguments x y s t p q = p ∙ sym q
+pub items-proposal : OneAnswer 1 items-proposal-kinds.ps items-proposal-kinds.r (λ κs x s. now x) items-proposal-reads.Post
+items-proposal κs arguments x y s t p q = p ∙ sym q
 
-pub sets-proposal-count : OneAnswer 1 sets-proposal-count-kinds.ps sets-proposal-count-kinds.r (λ κs x s. x) sets-proposal-count-reads.Post
-sets-proposal-count κs arguments x y s t p q = p ∙ sym q
+pub items-proposal-count : OneAnswer 1 items-proposal-count-kinds.ps items-proposal-count-kinds.r (λ κs x s. x) items-proposal-count-reads.Post
+items-proposal-count κs arguments x y s t p q = p ∙ sym q
 
 pub fields-proposal-number : OneAnswer 1 fields-proposal-number-kinds.ps fields-proposal-number-kinds.r (λ κs x s. x) fields-proposal-number-reads.Post
 fields-proposal-number κs arguments x y s t p q = p ∙ sym q
@@ -341,11 +341,11 @@ fields-spi κs arguments x y s t p q = p ∙ sym q
 pub fields-transform-count : OneAnswer 1 fields-transform-count-kinds.ps fields-transform-count-kinds.r (λ κs x s. x) fields-transform-count-reads.Post
 fields-transform-count κs arguments x y s t p q = p ∙ sym q
 
-pub sets-transform : OneAnswer 1 sets-transform-kinds.ps sets-transform-kinds.r (λ κs x s. now x) sets-transform-reads.Post
-sets-transform κs arguments x y s t p q = p ∙ sym q
+pub items-transform : OneAnswer 1 items-transform-kinds.ps items-transform-kinds.r (λ κs x s. now x) items-transform-reads.Post
+items-transform κs arguments x y s t p q = p ∙ sym q
 
-pub sets-transform-numbered : OneAnswer 1 sets-transform-numbered-kinds.ps sets-transform-numbered-kinds.r (λ κs x s. now x) sets-transform-numbered-reads.Post
-sets-transform-numbered κs arguments x y s t p q = p ∙ sym q
+pub items-transform-numbered : OneAnswer 1 items-transform-numbered-kinds.ps items-transform-numbered-kinds.r (λ κs x s. now x) items-transform-numbered-reads.Post
+items-transform-numbered κs arguments x y s t p q = p ∙ sym q
 
 pub fields-transform-number : OneAnswer 1 fields-transform-number-kinds.ps fields-transform-number-kinds.r (λ κs x s. x) fields-transform-number-reads.Post
 fields-transform-number κs arguments x y s t p q = p ∙ sym q

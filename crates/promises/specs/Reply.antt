@@ -23,7 +23,8 @@ use Rattle.message.specs.declared.Message.the-variants.{Read}
 use Rattle.message.proofs.Laws.{reading-header, read-as, one-sa-reads}
 use Rattle.offer.specs.Proposals.{offerCode}
 use Rattle.fields.specs.Fields.{proposalNumber, protocol, spi, transformCount, transformNumber}
-use Rattle.sets.specs.Parts.{set, setCount, setNumbered, proposal, proposalCount, transform}
+use Rattle.sets.specs.Sets.{set, setCount, setNumbered}
+use Rattle.items.specs.Items.{proposal, proposalCount, transform}
 use Rattle.fields.specs.declared.ProposalNumber.{ProposalNumber}
 use Rattle.fields.specs.declared.TransformNumber.{TransformNumber}
 use Rattle.suits.specs.Suits.{lowest, protocolsSuit}

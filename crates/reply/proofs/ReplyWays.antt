@@ -11,7 +11,8 @@ use Rattle.put.specs.Put.{bytesOf, head, headed, paste, put}
 use Rattle.wire.proofs.Tests.{by-test}
 use Rattle.put.proofs.Laws.{length-bytesOf, length-head, length-headed, paste-append, put-size, put-after, put-before, put-head-last}
 use Rattle.fields.specs.Fields.{proposalNumber, protocol}
-use Rattle.sets.specs.Parts.{setNumbered, proposal, transformNumbered}
+use Rattle.sets.specs.Sets.{setNumbered}
+use Rattle.items.specs.Items.{proposal, transformNumbered}
 use Rattle.fields.specs.declared.ProposalNumber.{ProposalNumber}
 use Rattle.fields.specs.declared.TransformNumber.{TransformNumber}
 use Rattle.sets.proofs.Laws.{transform-within, two-within}

@@ -9,7 +9,8 @@ use Rattle.put.specs.Put.{bytesOf, head, headed, paste}
 use Rattle.wire.specs.Tests.{if_then_else_}
 use Rattle.wire.specs.Answer.{Answer, done, refused}
 use Rattle.fields.specs.Fields.{proposalNumber, protocol}
-use Rattle.sets.specs.Parts.{setNumbered, proposal, transformNumbered}
+use Rattle.sets.specs.Sets.{setNumbered}
+use Rattle.items.specs.Items.{proposal, transformNumbered}
 use Rattle.fields.specs.declared.TransformNumber.{TransformNumber}
 use Rattle.policy.specs.Choice.{saFrom, choice}
 use Rattle.policy.specs.declared.Transforms.{Transforms}

@@ -13,7 +13,8 @@ use Rattle.wire.specs.Tests.{if_then_else_}
 use Rattle.wire.proofs.Tests.{by-test}
 use Rattle.wire.proofs.Laws.{number-append, number-append-add, take-within, drop-within}
 use Rattle.offer.specs.Proposals.{transformBytes, offerCode}
-use Rattle.sets.specs.Parts.{skip, firstItem, afterItem, setEnd, firstSet, afterSet, numbered, setNumbered, proposal, transformNumbered}
+use Rattle.items.specs.Items.{skip, firstItem, afterItem, numbered, proposal, transformNumbered}
+use Rattle.sets.specs.Sets.{setEnd, firstSet, afterSet, setNumbered}
 use Rattle.fields.specs.declared.ProposalNumber.{ProposalNumber}
 use Rattle.fields.specs.declared.TransformNumber.{TransformNumber}
 use Rattle.offer.proofs.Laws.{Item, Rising, end, on, offer-reads}

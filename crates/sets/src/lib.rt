@@ -1,47 +1,12 @@
-// What later layers take out of an SA payload's body that reads: sets, proposals, transforms. Every function takes any bytes.
+// The sets of an SA payload's body that reads. Every function takes any bytes.
 use fields::ProposalNumber;
-use fields::TransformNumber;
-use offer::transform_bytes;
 use wire::after;
 use wire::be16;
 use wire::byte;
 use wire::front;
 ghost use mathlib.Core.Path.{_≡_};
-ghost use Rattle.sets.specs.Parts.{skip, parts, firstItem, afterItem, setEnd, firstSet, afterSet, numbered, set, setCount, setNumbered, proposal, proposalCount, transform, transformNumbered};
-
-fn first_item(s: &[u8]) -> &[u8]
-    ensures { λ r. ⌜ now r ≡ firstItem (now (s .entry)) ⌝ }
-{
-    front(s, be16(s, 2) as usize)
-}
-
-fn after_item(s: &[u8]) -> &[u8]
-    ensures { λ r. ⌜ now r ≡ afterItem (now (s .entry)) ⌝ }
-{
-    after(s, be16(s, 2) as usize)
-}
-
-fn skip_items(k: u8, s: &[u8]) -> &[u8]
-    ensures { λ r. ⌜ now r ≡ skip afterItem k (now (s .entry)) ⌝ }
-{
-    if k == 0 {
-        s
-    } else {
-        skip_items(k - 1, after_item(s))
-    }
-}
-
-fn items(left: u8, s: &[u8]) -> u8
-    ensures { λ r. ⌜ r ≡ parts afterItem left (now (s .entry)) ⌝ }
-{
-    if left == 0 {
-        return 0;
-    }
-    if s.len() == 0 {
-        return 0;
-    }
-    1 + items(left - 1, after_item(s))
-}
+ghost use Rattle.items.specs.Items.{skip, parts, numbered};
+ghost use Rattle.sets.specs.Sets.{setEnd, firstSet, afterSet, set, setCount, setNumbered};
 
 fn set_end(left: u8, number: u8, s: &[u8], at: usize) -> usize
     ensures { λ r. ⌜ r ≡ setEnd left number (now (s .entry)) at ⌝ }
@@ -92,18 +57,6 @@ fn sets(left: u8, s: &[u8]) -> u8
     1 + sets(left - 1, after_set(s))
 }
 
-fn numbered_item(left: u8, number: u8, s: &[u8]) -> &[u8]
-    ensures { λ r. ⌜ now r ≡ numbered firstItem afterItem left number (now (s .entry)) ⌝ }
-{
-    if left == 0 {
-        return front(s, 0);
-    }
-    if byte(s, 4) == number {
-        return first_item(s);
-    }
-    numbered_item(left - 1, number, after_item(s))
-}
-
 fn numbered_set(left: u8, number: u8, s: &[u8]) -> &[u8]
     ensures { λ r. ⌜ now r ≡ numbered firstSet afterSet left number (now (s .entry)) ⌝ }
 {
@@ -135,32 +88,4 @@ pub fn set_numbered(number: ProposalNumber, body: &[u8]) -> &[u8]
     ensures { λ r. ⌜ now r ≡ setNumbered number (now (body .entry)) ⌝ }
 {
     numbered_set(16, number.0, after(body, 8))
-}
-
-// Proposal k of a set, counted from 0.
-pub fn proposal(k: u8, set: &[u8]) -> &[u8]
-    ensures { λ r. ⌜ now r ≡ proposal k (now (set .entry)) ⌝ }
-{
-    first_item(skip_items(k, set))
-}
-
-// How many proposals a set has.
-pub fn proposal_count(set: &[u8]) -> u8
-    ensures { λ r. ⌜ r ≡ proposalCount (now (set .entry)) ⌝ }
-{
-    items(16, set)
-}
-
-// Transform k of a proposal, counted from 0.
-pub fn transform(k: u8, p: &[u8]) -> &[u8]
-    ensures { λ r. ⌜ now r ≡ transform k (now (p .entry)) ⌝ }
-{
-    first_item(skip_items(k, transform_bytes(p)))
-}
-
-// The transform that has this number; no bytes where none has it.
-pub fn transform_numbered(number: TransformNumber, p: &[u8]) -> &[u8]
-    ensures { λ r. ⌜ now r ≡ transformNumbered number (now (p .entry)) ⌝ }
-{
-    numbered_item(8, number.0, transform_bytes(p))
 }

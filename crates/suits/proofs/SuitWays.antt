@@ -13,7 +13,7 @@ use Rattle.wire.proofs.Tests.{clash}
 use Rattle.wire.specs.Wire.{numberAt}
 use Rattle.offer.specs.Proposals.{transformBytes}
 use Rattle.fields.specs.Fields.{transformId, attributesOf, protocol}
-use Rattle.sets.specs.Parts.{skip, firstItem, afterItem, transform, proposal, proposalCount}
+use Rattle.items.specs.Items.{skip, firstItem, afterItem, transform, proposal, proposalCount}
 use Rattle.booklines.specs.Lines.{mainSeconds, quickProtocols, quickMode, quickSeconds}
 use Rattle.suits.specs.Suits.{valueIs, nothingSurplus, quickId, lifeWithin, quickIntegrity, mainSuits, quickSuits, suitsLine, transformSuits, lowestFrom, lowest, protocolsAlone, protocolsBoth, protocolsSuit, setSuits}
 

@@ -8,7 +8,7 @@ use Rattle.wire.specs.Tests.{if_then_else_}
 use Rattle.booklines.specs.Lines.{mainSeconds, quickProtocols, quickMode, quickSeconds}
 use Rattle.attribute.specs.Attributes.{attribute, attributeCount, value}
 use Rattle.fields.specs.Fields.{protocol, transformCount, transformId, attributesOf}
-use Rattle.sets.specs.Parts.{proposal, proposalCount, transform}
+use Rattle.items.specs.Items.{proposal, proposalCount, transform}
 
 -- an attribute is there, is there with this value, or with a value from 1 to the longest
 unfoldable pub present : ℕ → List ℕ → Bool

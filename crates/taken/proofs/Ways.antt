@@ -4,7 +4,7 @@ use mathlib.Core.Path.{_≡_}
 use mathlib.Core.List.{List}
 use mathlib.Core.Bool.{Bool, true, false, not, _&&_}
 use lib.Dec.{eqb}
-use Rattle.sets.specs.Parts.{setCount}
+use Rattle.sets.specs.Sets.{setCount}
 use Rattle.policy.specs.Choice.{bodyAt}
 use Rattle.taken.specs.Taken.{setTaken, repliedSet, offeredSet, identitiesSame, takenCode}
 

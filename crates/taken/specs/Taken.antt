@@ -6,7 +6,8 @@ use lib.Dec.{eqb}
 use Rattle.wire.specs.Wire.{equal}
 use Rattle.wire.specs.Tests.{if_then_else_}
 use Rattle.fields.specs.Fields.{proposalNumber, protocol, transformCount}
-use Rattle.sets.specs.Parts.{set, setCount, setNumbered, proposal, proposalCount, transform}
+use Rattle.sets.specs.Sets.{set, setCount, setNumbered}
+use Rattle.items.specs.Items.{proposal, proposalCount, transform}
 use Rattle.policy.specs.Choice.{bodyAt}
 use Rattle.shapes.specs.Shapes.{shapeOf}
 use Rattle.agreed.specs.Agreed.{spisOf, transformsIn}

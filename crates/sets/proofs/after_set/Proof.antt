@@ -1,4 +1,4 @@
-use Rattle.sets.specs.Parts.{afterSet}
+use Rattle.sets.specs.Sets.{afterSet}
 use borrow.Author.Needs.{needs}
 use Rattle.sets.proofs.after_set.Statement.{statement}
 use Rattle.sets.proofs.after_set.Tie as tie

@@ -1,4 +1,4 @@
-use Rattle.sets.specs.Parts.{firstSet}
+use Rattle.sets.specs.Sets.{firstSet}
 use borrow.Author.Needs.{needs}
 use Rattle.sets.proofs.first_set.Statement.{statement}
 use Rattle.sets.proofs.first_set.Tie as tie

@@ -1,4 +1,4 @@
-use Rattle.sets.specs.Parts.{set}
+use Rattle.sets.specs.Sets.{set}
 use borrow.Author.Needs.{needs}
 use Rattle.sets.proofs.set.Statement.{statement}
 use Rattle.sets.proofs.set.Tie as tie

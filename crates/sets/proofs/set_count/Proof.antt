@@ -1,4 +1,4 @@
-use Rattle.sets.specs.Parts.{setCount}
+use Rattle.sets.specs.Sets.{setCount}
 use borrow.Author.Needs.{needs}
 use Rattle.sets.proofs.set_count.Statement.{statement}
 use Rattle.sets.proofs.set_count.Tie as tie

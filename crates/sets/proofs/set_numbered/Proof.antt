@@ -1,4 +1,4 @@
-use Rattle.sets.specs.Parts.{setNumbered}
+use Rattle.sets.specs.Sets.{setNumbered}
 use borrow.Author.Needs.{needs}
 use Rattle.sets.proofs.set_numbered.Statement.{statement}
 use Rattle.sets.proofs.set_numbered.Tie as tie

@@ -1,13 +1,11 @@
--- What later layers take out of an SA payload's body that reads. Of any other body these give something too, which no rule asks for.
+-- The proposals of a set and the transforms of a proposal. Of bytes that do not read these give something too, which no rule asks for.
 use Prim.Native.Nat.{ℕ, zero, suc, _+_}
 use mathlib.Core.List.{List, []}
-use mathlib.Core.Bool.{not, _||_}
 use lib.ListN.{length, getD, take, drop}
-use lib.Dec.{ltb, eqb}
+use lib.Dec.{eqb}
 use Rattle.wire.specs.Wire.{numberAt}
 use Rattle.wire.specs.Tests.{if_then_else_}
 use Rattle.offer.specs.Proposals.{transformBytes}
-use Rattle.fields.specs.declared.ProposalNumber.{ProposalNumber}
 use Rattle.fields.specs.declared.TransformNumber.{TransformNumber}
 
 -- what is left of s after k of its parts, where rest takes off the first
@@ -27,35 +25,10 @@ firstItem s = take (numberAt 2 s 2) s
 unfoldable pub afterItem : List ℕ → List ℕ
 afterItem s = drop (numberAt 2 s 2) s
 
--- "Proposals with equal number form one set": where the proposals with this number end, of which so many may come from at on
-unfoldable pub setEnd : ℕ → ℕ → List ℕ → ℕ → ℕ
-setEnd zero number s at = at
-setEnd (suc left) number s at =
-    if ltb (length s) (at + 8) || not (eqb (getD s (at + 4) 0) number) then at
-    else setEnd left number s (at + numberAt 2 s (at + 2))
-
--- the set at the front of s, and what follows it
-unfoldable pub firstSet : List ℕ → List ℕ
-firstSet s = take (setEnd 16 (getD s 4 0) s 0) s
-
-unfoldable pub afterSet : List ℕ → List ℕ
-afterSet s = drop (setEnd 16 (getD s 4 0) s 0) s
-
 -- the first part with this number, of at most left: proposals and transforms have their number in byte 4; no bytes where there is none
 unfoldable pub numbered : (List ℕ → List ℕ) → (List ℕ → List ℕ) → ℕ → ℕ → List ℕ → List ℕ
 numbered first rest zero number s = []
 numbered first rest (suc left) number s = if eqb (getD s 4 0) number then first s else numbered first rest left number (rest s)
-
--- set k of a body, counted from 0: its proposals as bytes; and how many sets there are
-unfoldable pub set : ℕ → List ℕ → List ℕ
-set k body = firstSet (skip afterSet k (drop 8 body))
-
-unfoldable pub setCount : List ℕ → ℕ
-setCount body = parts afterSet 16 (drop 8 body)
-
--- the set that has this number
-unfoldable pub setNumbered : ProposalNumber → List ℕ → List ℕ
-setNumbered number body = numbered firstSet afterSet 16 (number .0) (drop 8 body)
 
 -- proposal k of a set, counted from 0, and how many it has
 unfoldable pub proposal : ℕ → List ℕ → List ℕ

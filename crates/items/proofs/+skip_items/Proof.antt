@@ -1,15 +1,15 @@
 use borrow.Author.Needs.{needs}
 use native.Mathlib.Omega.{arith}
-use Rattle.sets.proofs.Ways.{skip-here, skip-on}
+use Rattle.items.proofs.Ways.{skip-here, skip-on}
 use Prim.Native.Nat.{ℕ, _<_}
 use borrow.Fn.Kinds.{In}
 use borrow.Fn.PlainCycle.{Measures, is, falls, and}
-use Rattle.sets.proofs.skip_items.Reads as skip-items
-use Rattle.sets.proofs.skip_items.Kinds as skip-items-kinds
-use Rattle.sets.proofs.+skip_items.Lts-skip_items as skip-items-lts
-use Rattle.sets.proofs.after_item.Reads as after-item-reads
-use Rattle.sets.proofs.+skip_items.{statement}
-use Rattle.sets.proofs.+skip_items.Tie.{close}
+use Rattle.items.proofs.skip_items.Reads as skip-items
+use Rattle.items.proofs.skip_items.Kinds as skip-items-kinds
+use Rattle.items.proofs.+skip_items.Lts-skip_items as skip-items-lts
+use Rattle.items.proofs.after_item.Reads as after-item-reads
+use Rattle.items.proofs.+skip_items.{statement}
+use Rattle.items.proofs.+skip_items.Tie.{close}
 
 abbrev μ-skip-items : Measures 1 skip-items-kinds.ps ℕ
 μ-skip-items κs a = a .0

@@ -1,7 +1,7 @@
-use Rattle.sets.specs.Parts.{afterItem}
+use Rattle.items.specs.Items.{afterItem}
 use borrow.Author.Needs.{needs}
-use Rattle.sets.proofs.after_item.Statement.{statement}
-use Rattle.sets.proofs.after_item.Tie as tie
+use Rattle.items.proofs.after_item.Statement.{statement}
+use Rattle.items.proofs.after_item.Tie as tie
 
 pub after-item-spec : {M : Type 1} → statement M
 unfolding afterItem

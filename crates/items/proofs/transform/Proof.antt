@@ -1,7 +1,7 @@
-use Rattle.sets.specs.Parts.{transform}
+use Rattle.items.specs.Items.{transform}
 use borrow.Author.Needs.{needs}
-use Rattle.sets.proofs.transform.Statement.{statement}
-use Rattle.sets.proofs.transform.Tie as tie
+use Rattle.items.proofs.transform.Statement.{statement}
+use Rattle.items.proofs.transform.Tie as tie
 
 pub transform-spec : {M : Type 1} → statement M
 unfolding transform

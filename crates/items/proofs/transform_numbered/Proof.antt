@@ -1,7 +1,7 @@
-use Rattle.sets.specs.Parts.{transformNumbered}
+use Rattle.items.specs.Items.{transformNumbered}
 use borrow.Author.Needs.{needs}
-use Rattle.sets.proofs.transform_numbered.Statement.{statement}
-use Rattle.sets.proofs.transform_numbered.Tie as tie
+use Rattle.items.proofs.transform_numbered.Statement.{statement}
+use Rattle.items.proofs.transform_numbered.Tie as tie
 
 pub transform-numbered-spec : {M : Type 1} → statement M
 unfolding transformNumbered

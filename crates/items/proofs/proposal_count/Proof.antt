@@ -1,7 +1,7 @@
-use Rattle.sets.specs.Parts.{proposalCount}
+use Rattle.items.specs.Items.{proposalCount}
 use borrow.Author.Needs.{needs}
-use Rattle.sets.proofs.proposal_count.Statement.{statement}
-use Rattle.sets.proofs.proposal_count.Tie as tie
+use Rattle.items.proofs.proposal_count.Statement.{statement}
+use Rattle.items.proofs.proposal_count.Tie as tie
 
 pub proposal-count-spec : {M : Type 1} → statement M
 unfolding proposalCount

@@ -1,7 +1,7 @@
-use Rattle.sets.specs.Parts.{firstItem}
+use Rattle.items.specs.Items.{firstItem}
 use borrow.Author.Needs.{needs}
-use Rattle.sets.proofs.first_item.Statement.{statement}
-use Rattle.sets.proofs.first_item.Tie as tie
+use Rattle.items.proofs.first_item.Statement.{statement}
+use Rattle.items.proofs.first_item.Tie as tie
 
 pub first-item-spec : {M : Type 1} → statement M
 unfolding firstItem

@@ -1,7 +1,7 @@
-use Rattle.sets.specs.Parts.{proposal}
+use Rattle.items.specs.Items.{proposal}
 use borrow.Author.Needs.{needs}
-use Rattle.sets.proofs.proposal.Statement.{statement}
-use Rattle.sets.proofs.proposal.Tie as tie
+use Rattle.items.proofs.proposal.Statement.{statement}
+use Rattle.items.proofs.proposal.Tie as tie
 
 pub proposal-spec : {M : Type 1} → statement M
 unfolding proposal

@@ -1,18 +1,18 @@
 use borrow.Author.Needs.{needs}
 use native.Mathlib.Omega.{arith}
-use Rattle.sets.proofs.Ways.{numbered-out, numbered-here, numbered-on}
+use Rattle.items.proofs.Ways.{numbered-out, numbered-here, numbered-on}
 use Prim.Native.Nat.{ℕ, _<_}
 use borrow.Fn.Kinds.{In}
 use borrow.Fn.PlainCycle.{Measures, is, falls, and}
-use Rattle.sets.proofs.numbered_item.Reads as numbered-item
-use Rattle.sets.proofs.numbered_item.Kinds as numbered-item-kinds
-use Rattle.sets.proofs.+numbered_item.Lts-numbered_item as numbered-item-lts
-use Rattle.sets.proofs.after_item.Reads as after-item-reads
-use Rattle.sets.proofs.first_item.Reads as first-item-reads
+use Rattle.items.proofs.numbered_item.Reads as numbered-item
+use Rattle.items.proofs.numbered_item.Kinds as numbered-item-kinds
+use Rattle.items.proofs.+numbered_item.Lts-numbered_item as numbered-item-lts
+use Rattle.items.proofs.after_item.Reads as after-item-reads
+use Rattle.items.proofs.first_item.Reads as first-item-reads
 use Rattle.wire.proofs.byte.Reads as byte-reads
 use Rattle.wire.proofs.front.Reads as front-reads
-use Rattle.sets.proofs.+numbered_item.{statement}
-use Rattle.sets.proofs.+numbered_item.Tie.{close}
+use Rattle.items.proofs.+numbered_item.{statement}
+use Rattle.items.proofs.+numbered_item.Tie.{close}
 
 abbrev μ-numbered-item : Measures 1 numbered-item-kinds.ps ℕ
 μ-numbered-item κs a = a .0

@@ -1,16 +1,16 @@
 use borrow.Author.Needs.{needs}
-use Rattle.sets.specs.Parts.{afterItem}
+use Rattle.items.specs.Items.{afterItem}
 use native.Mathlib.Omega.{arith}
-use Rattle.sets.proofs.Ways.{parts-out, parts-end, parts-on, parts-below}
+use Rattle.items.proofs.Ways.{parts-out, parts-end, parts-on, parts-below}
 use Prim.Native.Nat.{ℕ, _<_}
 use borrow.Fn.Kinds.{In}
 use borrow.Fn.PlainCycle.{Measures, is, falls, and}
-use Rattle.sets.proofs.items.Reads as items
-use Rattle.sets.proofs.items.Kinds as items-kinds
-use Rattle.sets.proofs.+items.Lts-items as items-lts
-use Rattle.sets.proofs.after_item.Reads as after-item-reads
-use Rattle.sets.proofs.+items.{statement}
-use Rattle.sets.proofs.+items.Tie.{close}
+use Rattle.items.proofs.items.Reads as items
+use Rattle.items.proofs.items.Kinds as items-kinds
+use Rattle.items.proofs.+items.Lts-items as items-lts
+use Rattle.items.proofs.after_item.Reads as after-item-reads
+use Rattle.items.proofs.+items.{statement}
+use Rattle.items.proofs.+items.Tie.{close}
 
 abbrev μ-items : Measures 1 items-kinds.ps ℕ
 μ-items κs a = a .0
