@@ -7,7 +7,13 @@ use differential::groups::{self, Group};
 use differential::programs::Programs;
 use differential::DEFAULT_SEED;
 use std::collections::BTreeMap;
+use std::sync::atomic::{AtomicUsize, Ordering};
+use std::sync::Mutex;
+use std::thread;
 use std::time::Instant;
+
+/// So many groups are compared at once.
+const AT_ONCE: usize = 2;
 
 /// So many differences of a group are shown; one mistake can bring thousands.
 const DIFFERENCES_SHOWN: usize = 5;
@@ -55,13 +61,20 @@ fn usage() -> ! {
     std::process::exit(2)
 }
 
+/// What a group counts and has to say.
 #[derive(Default)]
 struct Tally {
     passed: usize,
     failed: usize,
+    said: String,
 }
 
 impl Tally {
+    fn say(&mut self, line: &str) {
+        self.said += line;
+        self.said += "\n";
+    }
+
     /// Counts one test, which passed if there are no faults to show.
     fn count<Fault>(&mut self, test: &str, faults: &[Fault], show: impl Fn(&Fault) -> String) {
         if faults.is_empty() {
@@ -69,27 +82,48 @@ impl Tally {
             return;
         }
         self.failed += 1;
-        println!("FAILED {test}");
+        self.say(&format!("FAILED {test}"));
         for fault in faults.iter().take(DIFFERENCES_SHOWN) {
-            println!("  {}", show(fault));
+            self.say(&format!("  {}", show(fault)));
         }
         if faults.len() > DIFFERENCES_SHOWN {
-            println!("  and {} more", faults.len() - DIFFERENCES_SHOWN);
+            self.say(&format!("  and {} more", faults.len() - DIFFERENCES_SHOWN));
         }
     }
 }
 
 fn main() {
     let Some(request) = request(std::env::args().skip(1)) else { usage() };
-    let mut tally = Tally::default();
-    for group in &request.groups {
-        match request.case {
-            Some(number) => run_case(&request, group, number, &mut tally),
-            None => run_group(&request, group, &mut tally),
+    let tallies: Vec<_> = request.groups.iter().map(|_| Mutex::new(Tally::default())).collect();
+    // From the last group on, which takes longest; what they say stands in their order.
+    let left = AtomicUsize::new(tallies.len());
+    thread::scope(|scope| {
+        for _ in 0..AT_ONCE {
+            scope.spawn(|| {
+                while let Ok(last) = left.fetch_update(Ordering::Relaxed, Ordering::Relaxed, |left| left.checked_sub(1))
+                {
+                    let mut tally = tallies[last - 1].lock().expect("no other group counts here");
+                    run(&request, request.groups[last - 1], &mut tally);
+                }
+            });
         }
+    });
+    let [mut passed, mut failed] = [0, 0];
+    for tally in tallies {
+        let tally = tally.into_inner().expect("every group ran to its end");
+        print!("{}", tally.said);
+        passed += tally.passed;
+        failed += tally.failed;
     }
-    println!("{} passed, {} failed", tally.passed, tally.failed);
-    std::process::exit((tally.failed > 0).into());
+    println!("{passed} passed, {failed} failed");
+    std::process::exit((failed > 0).into());
+}
+
+fn run(request: &Request, group: &Group, tally: &mut Tally) {
+    match request.case {
+        Some(number) => run_case(request, group, number, tally),
+        None => run_group(request, group, tally),
+    }
 }
 
 fn run_group(request: &Request, group: &Group, tally: &mut Tally) {
@@ -99,14 +133,14 @@ fn run_group(request: &Request, group: &Group, tally: &mut Tally) {
     let comparison =
         compare(&request.programs, &cases, group.in_order, &mut |case, answers| counts.add(group, case, answers));
 
-    println!(
+    tally.say(&format!(
         "{}: {} cases of {} kinds in {:.1} s; {}",
         group.name,
         cases.len(),
         group.kinds.len(),
         started.elapsed().as_secs_f64(),
         counts.show(group)
-    );
+    ));
 
     count_comparison(request, group, &cases, &comparison, tally);
     count_occurrences(group, &cases, &counts, tally);
@@ -172,7 +206,7 @@ fn count_occurrences(group: &Group, cases: &[Case], counts: &Counts, tally: &mut
 fn run_case(request: &Request, group: &Group, number: usize, tally: &mut Tally) {
     let mut cases = group.cases(request.seed);
     if number >= cases.len() {
-        println!("{} has the cases 0 to {}", group.name, cases.len() - 1);
+        tally.say(&format!("{} has the cases 0 to {}", group.name, cases.len() - 1));
         tally.failed += 1;
         return;
     }
@@ -180,10 +214,10 @@ fn run_case(request: &Request, group: &Group, number: usize, tally: &mut Tally) 
     if !group.in_order {
         cases.drain(..number);
     }
-    cases.iter().for_each(|case| println!("{}", case.input.escape_ascii()));
+    cases.iter().for_each(|case| tally.say(&case.input.escape_ascii().to_string()));
     let mut agreed = Vec::new();
     let comparison = compare(&request.programs, &cases, group.in_order, &mut |_, answers| agreed = answers.to_vec());
-    println!("agreed: {}", agreed.join(", "));
+    tally.say(&format!("agreed: {}", agreed.join(", ")));
     count_comparison(request, group, &cases, &comparison, tally);
 }
 
