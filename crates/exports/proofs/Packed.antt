@@ -11,7 +11,7 @@ use Rattle.policy.specs.declared.Transforms.the-variants.{One, Two}
 use Rattle.policy.specs.declared.Choice.{Choice}
 use Rattle.policy.specs.declared.Choice.the-variants as choices
 use Rattle.receive.specs.declared.Verdict.{Verdict}
-use Rattle.receive.specs.declared.Verdict.the-variants as Y
+use Rattle.receive.specs.declared.Verdict.the-variants as Verdicts
 use Rattle.exports.specs.Exports.{packed, choicePacked, verdictPacked}
 
 -- what the types of the answer's parts say of it
@@ -82,12 +82,12 @@ choice-packed-injective (choices.Chosen s l (Two t u)) (choices.Chosen s' l' (Tw
 
 -- what the type of a refusal's number says of a verdict
 unfoldable pub HeldVerdict : Verdict → Type 0
-HeldVerdict Y.Accepted = Unit {0}
-HeldVerdict (Y.Refused number) = number < 65536
+HeldVerdict Verdicts.Accepted = Unit {0}
+HeldVerdict (Verdicts.Refused number) = number < 65536
 
 pub verdict-packed-injective : (a b : Verdict) → HeldVerdict a → HeldVerdict b → verdictPacked a ≡ verdictPacked b → a ≡ b
 unfolding verdictPacked HeldVerdict
-verdict-packed-injective Y.Accepted Y.Accepted ha hb same = refl
-verdict-packed-injective Y.Accepted (Y.Refused m) ha hm same = absurd (omega arith)
-verdict-packed-injective (Y.Refused n) Y.Accepted hn hb same = absurd (omega arith)
-verdict-packed-injective (Y.Refused n) (Y.Refused m) hn hm same = ap Y.Refused same
+verdict-packed-injective Verdicts.Accepted Verdicts.Accepted ha hb same = refl
+verdict-packed-injective Verdicts.Accepted (Verdicts.Refused m) ha hm same = absurd (omega arith)
+verdict-packed-injective (Verdicts.Refused n) Verdicts.Accepted hn hb same = absurd (omega arith)
+verdict-packed-injective (Verdicts.Refused n) (Verdicts.Refused m) hn hm same = ap Verdicts.Refused same

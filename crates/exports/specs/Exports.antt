@@ -9,7 +9,7 @@ use Rattle.policy.specs.declared.Transforms.the-variants.{One, Two}
 use Rattle.receive.specs.declared.Receive.{Receive}
 use Rattle.receive.specs.declared.Judged.{Judged}
 use Rattle.receive.specs.declared.Verdict.{Verdict}
-use Rattle.receive.specs.declared.Verdict.the-variants as Y
+use Rattle.receive.specs.declared.Verdict.the-variants as Verdicts
 
 -- a refusal is its number, below 65,536; a readable message is a 1, its exchange and its count, as bytes from the high one down
 unfoldable pub packed : Message → ℕ
@@ -25,8 +25,8 @@ choicePacked (choices.Chosen number line (Two t u)) = 8589934592 + (16777216 * n
 
 -- a refusal is its number, below 65,536; 65,536 is an accepted packet
 unfoldable pub verdictPacked : Verdict → ℕ
-verdictPacked Y.Accepted = 65536
-verdictPacked (Y.Refused number) = number
+verdictPacked Verdicts.Accepted = 65536
+verdictPacked (Verdicts.Refused number) = number
 
 -- a packet's verdict as its number, beside the table after it
 unfoldable pub packetPacked : Verdict × List ℕ → ℕ × List ℕ

@@ -67,20 +67,20 @@ pub extern "C" fn tallowbrim_packet(
     table: &mut Table,
     destination: u32,
     protocol: u8,
-    whole: bool,
+    integrity: bool,
     s: &[u8],
 ) -> u32
-    ensures { λ r. ⌜ packetPacked (packet (now (table .entry)) destination protocol whole (now (s .entry))) ≡ (r, now (table .exit)) ⌝ }
+    ensures { λ r. ⌜ packetPacked (packet (now (table .entry)) destination protocol integrity (now (s .entry))) ≡ (r, now (table .exit)) ⌝ }
 {
-    let verdict = sequence::table::packet(table, destination, protocol, whole, s);
+    let verdict = sequence::table::packet(table, destination, protocol, integrity, s);
     verdict_packed(verdict)
 }
 
 // A step of a record where the caller's record stands: the refusal number, or 65,536 where the number is accepted.
 #[no_mangle]
-pub extern "C" fn tallowbrim_step(receive: &mut Receive, number: u32, whole: bool) -> u32
-    ensures { λ r. ⌜ judgedPacked (judged (now (receive .entry)) number whole) ≡ (r, now (receive .exit)) ⌝ }
+pub extern "C" fn tallowbrim_step(receive: &mut Receive, number: u32, integrity: bool) -> u32
+    ensures { λ r. ⌜ judgedPacked (judged (now (receive .entry)) number integrity) ≡ (r, now (receive .exit)) ⌝ }
 {
-    let verdict = step_in_place(receive, number, whole);
+    let verdict = step_in_place(receive, number, integrity);
     verdict_packed(verdict)
 }

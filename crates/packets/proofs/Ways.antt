@@ -9,29 +9,29 @@ use borrow.Author.Tests.{le-leb, lt-leb, eq-eqb, ne-eqb}
 use Rattle.wire.specs.Wire.{numberAt}
 use Rattle.packets.specs.Packets.{known, ah, esp, read}
 use Rattle.packets.specs.declared.Packet.{Packet}
-use Rattle.packets.specs.declared.Packet.the-variants as P
+use Rattle.packets.specs.declared.Packet.the-variants as Packets
 
 module _ (s : List ℕ) (l z : ℕ) (el : l ≡ getD s 1 0) (ez : z ≡ numberAt 2 s 2) where
   pub ah-read : (leb 12 (length s) && eqb z 0 && leb 12 ((l + 2) * 4) && leb ((l + 2) * 4) (length s)) ≡ true →
-      (a n : ℕ) → a ≡ numberAt 4 s 4 → n ≡ numberAt 4 s 8 → P.Read a n ≡ ah s
+      (a n : ℕ) → a ≡ numberAt 4 s 4 → n ≡ numberAt 4 s 8 → Packets.Read a n ≡ ah s
   unfolding ah
   ah-read h a n ea en = rw (← el, ← ez, h, ea, en)
 
-  pub ah-refused : (leb 12 (length s) && eqb z 0 && leb 12 ((l + 2) * 4) && leb ((l + 2) * 4) (length s)) ≡ false → P.Refused 16 ≡ ah s
+  pub ah-refused : (leb 12 (length s) && eqb z 0 && leb 12 ((l + 2) * 4) && leb ((l + 2) * 4) (length s)) ≡ false → Packets.Refused 16 ≡ ah s
   unfolding ah
   ah-refused h = rw (← el, ← ez, h)
 
 module _ (s : List ℕ) where
-  pub esp-read : 8 ≤ length s → (a n : ℕ) → a ≡ numberAt 4 s 0 → n ≡ numberAt 4 s 4 → P.Read a n ≡ esp s
+  pub esp-read : 8 ≤ length s → (a n : ℕ) → a ≡ numberAt 4 s 0 → n ≡ numberAt 4 s 4 → Packets.Read a n ≡ esp s
   unfolding esp
   esp-read h a n ea en = rw (le-leb 8 (length s) h, ea, en)
 
-  pub esp-refused : length s < 8 → P.Refused 16 ≡ esp s
+  pub esp-refused : length s < 8 → Packets.Refused 16 ≡ esp s
   unfolding esp
   esp-refused h = rw (lt-leb 8 (length s) h)
 
   module _ (protocol : ℕ) (k : Bool) (ek : k ≡ known protocol) where
-    pub read-unknown : not k ≡ true → P.Refused 10 ≡ read protocol s
+    pub read-unknown : not k ≡ true → Packets.Refused 10 ≡ read protocol s
     unfolding read
     read-unknown h = rw (← ek, h)
 

@@ -16,15 +16,15 @@ use Rattle.packets.specs.declared.Packet.the-variants.{Read, Refused}
 use Rattle.sequence.specs.declared.table.Key.{Key}
 use Rattle.receive.specs.Receive.{judged, answer}
 use Rattle.packets.specs.Packets.{known, read}
-use Rattle.sequence.specs.Table.{empty, added, removed, packet, sent, loss, outcome, sending, counted}
+use Rattle.sequence.specs.Table.{empty, added, removed, packet, sent, loss, outcomeAnswer, sendingAnswer, countedAnswer}
 
 -- ---- what came before
 
--- a call of the table; `shows` is a packet, whole where its integrity holds; `asks` is for the loss line
+-- a call of the table; `shows` is a packet and what the caller says of its integrity; `asks` is for the loss line
 pub data Call : Type 0 where
   adds : Key → Call
   removes : Key → Call
-  shows : (destination protocol : ℕ) (whole : Bool) → List ℕ → Call
+  shows : (destination protocol : ℕ) (integrity : Bool) → List ℕ → Call
   sends : Key → Call
   asks : Key → Call
 
@@ -52,7 +52,7 @@ numberRead (Refused number) = 0
 unfoldable pub keyOf : Call → Key
 keyOf (adds key) = key
 keyOf (removes key) = key
-keyOf (shows destination protocol whole s) = keyRead destination protocol (read protocol s)
+keyOf (shows destination protocol integrity s) = keyRead destination protocol (read protocol s)
 keyOf (sends key) = key
 keyOf (asks key) = key
 
@@ -67,7 +67,7 @@ pub data Deed : Type 0 where
 abbrev pub deed : Call → Answer → Deed
 deed (adds key) a = begins
 deed (removes key) a = ends
-deed (shows destination protocol whole s) a = accepts (numberRead (read protocol s))
+deed (shows destination protocol integrity s) a = accepts (numberRead (read protocol s))
 deed (sends key) a = hands (getD (a .values) 0 0)
 deed (asks key) a = none
 
@@ -147,17 +147,17 @@ recent numbers = sum (λ k. one (member (highest numbers - k) numbers)) (min (hi
 
 -- "number 0, or number plus 64 not above H: 8197; accepted before: 8194; integrity no: 24; else accepted"
 unfoldable pub rightNumber : List ℕ → ℕ → Bool → Answer
-rightNumber numbers number whole =
+rightNumber numbers number integrity =
     if eqb number 0 || leb (number + 64) (highest numbers) then refused 8197
     else if member number numbers then refused 8194
-    else if not whole then refused 24
+    else if not integrity then refused 24
     else done (1 ∷ [])
 
 unfoldable pub rightPacket : List Event → ℕ → ℕ → Bool → Packet → Answer
-rightPacket past destination protocol whole (Refused number) = refused number
-rightPacket past destination protocol whole (Read spi number) =
+rightPacket past destination protocol integrity (Refused number) = refused number
+rightPacket past destination protocol integrity (Read spi number) =
     if not (lives (record { destination = destination; protocol = protocol; spi = spi }) past) then refused 11
-    else rightNumber (accepted (record { destination = destination; protocol = protocol; spi = spi }) past) number whole
+    else rightNumber (accepted (record { destination = destination; protocol = protocol; spi = spi }) past) number integrity
 
 unfoldable pub right : List Event → Call → Answer
 -- "Adding: protocol 10, SPI below 256 11, present 8200, full 8199"
@@ -172,7 +172,7 @@ right past (removes key) =
     if not (lives key past) then refused 11
     else done (1 ∷ [])
 -- what the packet itself is refused for, "then entry 11", then its number
-right past (shows destination protocol whole s) = rightPacket past destination protocol whole (read protocol s)
+right past (shows destination protocol integrity s) = rightPacket past destination protocol integrity (read protocol s)
 -- "Sending counts from 1; after 4,294,967,295: 8198"
 right past (sends key) =
     if not (lives key past) then refused 11
@@ -187,11 +187,11 @@ right past (asks key) =
 
 -- what the table answers a call by its contracts, and the table after it
 unfoldable pub answered : List ℕ → Call → Answer × List ℕ
-answered t (adds key) = (outcome (added t key .0), added t key .1)
-answered t (removes key) = (outcome (removed t key .0), removed t key .1)
-answered t (shows destination protocol whole s) = (answer (packet t destination protocol whole s .0), packet t destination protocol whole s .1)
-answered t (sends key) = (sending (sent t key .0), sent t key .1)
-answered t (asks key) = (counted (loss t key), t)
+answered t (adds key) = (outcomeAnswer (added t key .0), added t key .1)
+answered t (removes key) = (outcomeAnswer (removed t key .0), removed t key .1)
+answered t (shows destination protocol integrity s) = (answer (packet t destination protocol integrity s .0), packet t destination protocol integrity s .1)
+answered t (sends key) = (sendingAnswer (sent t key .0), sent t key .1)
+answered t (asks key) = (countedAnswer (loss t key), t)
 
 -- the calls of a run with the table's answers, and with those worked out afresh, behind what came before
 unfoldable pub answeredAll : List ℕ → List Event → List Call → List Event
@@ -217,15 +217,15 @@ countdown (suc n) = suc n ∷ countdown n
 abbrev pub isAdding : Call → Bool
 isAdding (adds key) = true
 isAdding (removes key) = false
-isAdding (shows destination protocol whole s) = false
+isAdding (shows destination protocol integrity s) = false
 isAdding (sends key) = false
 isAdding (asks key) = false
 
--- packets of the key, each whole or not, and the numbers that they carry
+-- packets of the key, each with what is said of its integrity, and the numbers that they carry
 pub data Carries (key : Key) : List (Bool × List ℕ) → List (Bool × ℕ) → Type 0 where
   no-more : Carries key [] []
-  next : {whole : Bool} {s : List ℕ} {number : ℕ} {packets : List (Bool × List ℕ)} {numbers : List (Bool × ℕ)} →
-      read (key .protocol) s ≡ Read (key .spi) number → Carries key packets numbers → Carries key ((whole, s) ∷ packets) ((whole, number) ∷ numbers)
+  next : {integrity : Bool} {s : List ℕ} {number : ℕ} {packets : List (Bool × List ℕ)} {numbers : List (Bool × ℕ)} →
+      read (key .protocol) s ≡ Read (key .spi) number → Carries key packets numbers → Carries key ((integrity, s) ∷ packets) ((integrity, number) ∷ numbers)
 
 unfoldable pub tableVerdicts : List ℕ → Key → List (Bool × List ℕ) → List Verdict
 tableVerdicts t key [] = []
@@ -241,7 +241,7 @@ lentVerdicts r (n ∷ numbers) = judged r (n .1) (n .0) .verdict ∷ lentVerdict
 abbrev oneKey : Key
 oneKey = record { destination = 0x0A000001; protocol = 3; spi = 256 }
 
--- whole ESP packets of the key, with these numbers
+-- ESP packets of the key whose integrity holds, with these numbers
 unfoldable pub packetsOf : List ℕ → List Call
 packetsOf [] = []
 packetsOf (n ∷ numbers) = shows 0x0A000001 3 true (bytesOf 4 256 ++ bytesOf 4 n) ∷ packetsOf numbers

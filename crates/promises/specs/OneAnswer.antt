@@ -551,7 +551,7 @@ sequence-loss κs arguments x y s t p q = p ∙ sym q
 -- The lent record is proved by walks, so these two contracts stand as the program logic's claims and not as `Post`: each claim is a fact,
 -- and no second record and verdict satisfy it.
 abbrev pub Lent : Receive → ℕ → Bool → Receive → Verdict → Type 0
-Lent before number whole after verdict = judged before number whole ≡ record { receive = after; verdict = verdict }
+Lent before number integrity after verdict = judged before number integrity ≡ record { receive = after; verdict = verdict }
 
 module _ {M : Type 1} (𝓤 : URA M) (H : Heap 𝓤) (A : Atoms 𝓤) (at-mem : Memory → SProp 𝓤) (run : Routine → Fun 𝓤) where
   pub receive-step-in-place-claim : (κs : Lfts 1) (a : ArgsD receive-step-in-place-contract.signature κs) (x : Verdict) (s : AtExit receive-step-in-place-contract.ended κs) →
@@ -562,12 +562,12 @@ module _ {M : Type 1} (𝓤 : URA M) (H : Heap 𝓤) (A : Atoms 𝓤) (at-mem : 
       receive-step-lent-contract.clauses 𝓤 H A at-mem run κs a .ensures tt x s ≡ fact 𝓤 (x ≡ judged (a .0) (a .1 .0) (a .1 .1 .0))
   receive-step-lent-claim κs a x s = refl
 
-pub receive-step-in-place : (before : Receive) (number : ℕ) (whole : Bool) (r q : Receive) (x y : Verdict) → Lent before number whole r x → Lent before number whole q y →
+pub receive-step-in-place : (before : Receive) (number : ℕ) (integrity : Bool) (r q : Receive) (x y : Verdict) → Lent before number integrity r x → Lent before number integrity q y →
     _≡_ {A = Judged} (record { receive = r; verdict = x }) (record { receive = q; verdict = y })
-receive-step-in-place before number whole r q x y p e = sym p ∙ e
+receive-step-in-place before number integrity r q x y p e = sym p ∙ e
 
-pub receive-step-lent : (before : Receive) (number : ℕ) (whole : Bool) (x y : Judged) → x ≡ judged before number whole → y ≡ judged before number whole → x ≡ y
-receive-step-lent before number whole x y p q = p ∙ sym q
+pub receive-step-lent : (before : Receive) (number : ℕ) (integrity : Bool) (x y : Judged) → x ≡ judged before number integrity → y ≡ judged before number integrity → x ≡ y
+receive-step-lent before number integrity x y p q = p ∙ sym q
 
 pub exports-tallowbrim-packet : OneAnswer 2 exports-tallowbrim-packet-kinds.ps exports-tallowbrim-packet-kinds.r {A = ℕ × List ℕ} (λ κs x s. (x, now (s .0))) exports-tallowbrim-packet-reads.Post
 exports-tallowbrim-packet κs arguments x y s t p q = sym p ∙ q
@@ -580,13 +580,13 @@ exportsquick-tallowbrim-exchange κs arguments x y s t p q = sym p ∙ q
 
 -- so does the lent record's call from another language
 abbrev pub LentOutside : Receive → ℕ → Bool → Receive → ℕ → Type 0
-LentOutside before number whole after verdict = judgedPacked (judged before number whole) ≡ (verdict, after)
+LentOutside before number integrity after verdict = judgedPacked (judged before number integrity) ≡ (verdict, after)
 
 module _ {M : Type 1} (𝓤 : URA M) (H : Heap 𝓤) (A : Atoms 𝓤) (at-mem : Memory → SProp 𝓤) (run : Routine → Fun 𝓤) where
   pub exports-tallowbrim-step-claim : (κs : Lfts 1) (a : ArgsD exports-tallowbrim-step-contract.signature κs) (x : ℕ) (s : AtExit exports-tallowbrim-step-contract.ended κs) →
       exports-tallowbrim-step-contract.clauses 𝓤 H A at-mem run κs a .ensures tt x s ≡ fact 𝓤 (LentOutside (now (a .0)) (a .1 .0) (a .1 .1 .0) (now (s .0)) x)
   exports-tallowbrim-step-claim κs a x s = refl
 
-pub exports-tallowbrim-step : (before : Receive) (number : ℕ) (whole : Bool) (r q : Receive) (x y : ℕ) → LentOutside before number whole r x → LentOutside before number whole q y →
+pub exports-tallowbrim-step : (before : Receive) (number : ℕ) (integrity : Bool) (r q : Receive) (x y : ℕ) → LentOutside before number integrity r x → LentOutside before number integrity q y →
     _≡_ {A = ℕ × Receive} (x, r) (y, q)
-exports-tallowbrim-step before number whole r q x y p e = sym p ∙ e
+exports-tallowbrim-step before number integrity r q x y p e = sym p ∙ e

@@ -39,8 +39,8 @@ module _ (t u : List ℕ) (key : Key) (long : length t ≡ rooms * words) (addin
   pub new-sending : answered u (sends key) .0 ≡ done (1 ∷ [])
   new-sending = Keys.new-sending t u key long adding
 
-  pub new-packet : (whole : Bool) (s : List ℕ) (number : ℕ) → read (key .protocol) s ≡ Read (key .spi) number →
-      answered u (shows (key .destination) (key .protocol) whole s) .0 ≡ rightNumber [] number whole
+  pub new-packet : (integrity : Bool) (s : List ℕ) (number : ℕ) → read (key .protocol) s ≡ Read (key .spi) number →
+      answered u (shows (key .destination) (key .protocol) integrity s) .0 ≡ rightNumber [] number integrity
   new-packet = Keys.new-packet t u key long adding
 
 -- A call on one key changes nothing that can be asked of another, whatever the table's words are. (Adding another key may find the table

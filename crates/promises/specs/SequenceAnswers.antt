@@ -7,15 +7,15 @@ use Rattle.receive.specs.declared.Verdict.{Verdict}
 use Rattle.packets.specs.declared.Packet.{Packet}
 use Rattle.packets.specs.declared.Packet.the-variants.{Read, Refused}
 use Rattle.sequence.specs.declared.table.Outcome.{Outcome}
-use Rattle.sequence.specs.declared.table.Outcome.the-variants as O
+use Rattle.sequence.specs.declared.table.Outcome.the-variants as Outcomes
 use Rattle.sequence.specs.declared.table.Sending.{Sending}
-use Rattle.sequence.specs.declared.table.Sending.the-variants as S
+use Rattle.sequence.specs.declared.table.Sending.the-variants as Sendings
 use Rattle.sequence.specs.declared.table.Counted.{Counted}
-use Rattle.sequence.specs.declared.table.Counted.the-variants as C
-use Rattle.receive.specs.declared.Verdict.the-variants as Y
+use Rattle.sequence.specs.declared.table.Counted.the-variants as Counts
+use Rattle.receive.specs.declared.Verdict.the-variants as Verdicts
 use Rattle.receive.specs.Receive.{answer}
 use Rattle.packets.specs.Packets.{answer as packetAnswer}
-use Rattle.sequence.specs.Table.{outcome, sending, counted}
+use Rattle.sequence.specs.Table.{outcomeAnswer, sendingAnswer, countedAnswer}
 
 -- what equal answers share
 pub parts : (a b : Answer) → a ≡ b → (a .number ≡ b .number) × (a .values ≡ b .values)
@@ -23,10 +23,10 @@ parts a b e = (ap (λ (x : Answer). x .number) e, ap (λ (x : Answer). x .values
 
 pub verdict-own : (x y : Verdict) → answer x ≡ answer y → x ≡ y
 unfolding answer
-verdict-own Y.Accepted Y.Accepted h = refl
-verdict-own Y.Accepted (Y.Refused m) h = let e = parts _ _ h in never (cc)
-verdict-own (Y.Refused n) Y.Accepted h = let e = parts _ _ h in never (cc)
-verdict-own (Y.Refused n) (Y.Refused m) h = let e = parts _ _ h in cc
+verdict-own Verdicts.Accepted Verdicts.Accepted h = refl
+verdict-own Verdicts.Accepted (Verdicts.Refused m) h = let e = parts _ _ h in never (cc)
+verdict-own (Verdicts.Refused n) Verdicts.Accepted h = let e = parts _ _ h in never (cc)
+verdict-own (Verdicts.Refused n) (Verdicts.Refused m) h = let e = parts _ _ h in cc
 
 pub packet-own : (x y : Packet) → packetAnswer x ≡ packetAnswer y → x ≡ y
 unfolding packetAnswer
@@ -35,23 +35,23 @@ packet-own (Read spi number) (Refused m) h = let e = parts _ _ h in never (cc)
 packet-own (Refused n) (Read spi′ number′) h = let e = parts _ _ h in never (cc)
 packet-own (Refused n) (Refused m) h = let e = parts _ _ h in cc
 
-pub outcome-own : (x y : Outcome) → outcome x ≡ outcome y → x ≡ y
-unfolding outcome
-outcome-own O.Done O.Done h = refl
-outcome-own O.Done (O.Refused m) h = let e = parts _ _ h in never (cc)
-outcome-own (O.Refused n) O.Done h = let e = parts _ _ h in never (cc)
-outcome-own (O.Refused n) (O.Refused m) h = let e = parts _ _ h in cc
+pub outcome-own : (x y : Outcome) → outcomeAnswer x ≡ outcomeAnswer y → x ≡ y
+unfolding outcomeAnswer
+outcome-own Outcomes.Done Outcomes.Done h = refl
+outcome-own Outcomes.Done (Outcomes.Refused m) h = let e = parts _ _ h in never (cc)
+outcome-own (Outcomes.Refused n) Outcomes.Done h = let e = parts _ _ h in never (cc)
+outcome-own (Outcomes.Refused n) (Outcomes.Refused m) h = let e = parts _ _ h in cc
 
-pub sending-own : (x y : Sending) → sending x ≡ sending y → x ≡ y
-unfolding sending
-sending-own (S.Number n) (S.Number m) h = let e = parts _ _ h in cc
-sending-own (S.Number n) (S.Refused m) h = let e = parts _ _ h in never (cc)
-sending-own (S.Refused n) (S.Number m) h = let e = parts _ _ h in never (cc)
-sending-own (S.Refused n) (S.Refused m) h = let e = parts _ _ h in cc
+pub sending-own : (x y : Sending) → sendingAnswer x ≡ sendingAnswer y → x ≡ y
+unfolding sendingAnswer
+sending-own (Sendings.Number n) (Sendings.Number m) h = let e = parts _ _ h in cc
+sending-own (Sendings.Number n) (Sendings.Refused m) h = let e = parts _ _ h in never (cc)
+sending-own (Sendings.Refused n) (Sendings.Number m) h = let e = parts _ _ h in never (cc)
+sending-own (Sendings.Refused n) (Sendings.Refused m) h = let e = parts _ _ h in cc
 
-pub counted-own : (x y : Counted) → counted x ≡ counted y → x ≡ y
-unfolding counted
-counted-own (C.Line k) (C.Line l) h = ap (λ (a : Answer). C.Line (record { highest = getD (a .values) 0 0; span = getD (a .values) 1 0; count = getD (a .values) 2 0 })) h
-counted-own (C.Line k) (C.Refused m) h = let e = parts _ _ h in never (cc)
-counted-own (C.Refused n) (C.Line l) h = let e = parts _ _ h in never (cc)
-counted-own (C.Refused n) (C.Refused m) h = let e = parts _ _ h in cc
+pub counted-own : (x y : Counted) → countedAnswer x ≡ countedAnswer y → x ≡ y
+unfolding countedAnswer
+counted-own (Counts.Line k) (Counts.Line l) h = ap (λ (a : Answer). Counts.Line (record { highest = getD (a .values) 0 0; span = getD (a .values) 1 0; count = getD (a .values) 2 0 })) h
+counted-own (Counts.Line k) (Counts.Refused m) h = let e = parts _ _ h in never (cc)
+counted-own (Counts.Refused n) (Counts.Line l) h = let e = parts _ _ h in never (cc)
+counted-own (Counts.Refused n) (Counts.Refused m) h = let e = parts _ _ h in cc

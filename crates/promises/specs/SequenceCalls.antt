@@ -20,7 +20,7 @@ use Rattle.sequence.specs.declared.table.Key.{Key}
 use Rattle.sequence.specs.declared.table.Entry.{Entry}
 use Rattle.receive.specs.Receive.{judged, answer}
 use Rattle.packets.specs.Packets.{known, ahSize, ah, esp, read}
-use Rattle.sequence.specs.Table.{rooms, empty, find, free, entryAt, putEntry, emptied, added, removed, judgedAt, packetRead, packet, handedOut, sent, loss, outcome, sending, counted}
+use Rattle.sequence.specs.Table.{rooms, empty, find, free, entryAt, putEntry, emptied, added, removed, judgedAt, packetRead, packet, handedOut, sent, loss, outcomeAnswer, sendingAnswer, countedAnswer}
 use Rattle.promises.specs.History.{Call, adds, removes, shows, sends, asks, Event, isDone, same, keyOf, lives, accepted, handed, entries, highest, recent, rightNumber, rightPacket, right, answered}
 use Rattle.promises.specs.SequenceRecord.{Shows, one-step, count-right, after}
 use Rattle.promises.specs.SequenceTable.{begun, Life, Keeps, keeps-none, keeps-entry, keeps-added, keeps-removed, keeps-said, same-self, same-not, full-taken}
@@ -85,7 +85,7 @@ module _ (t : List ℕ) (past : List Event) (k : Keeping t past) where
         keeps-removed k key (lifeOf (record { call = removes key; answer = done (1 ∷ []) } ∷ past)) (λ b d. rw (same-not key b d)) (ltb-true (find t key) rooms (k .present key ∙ l)) (rw (same-self key))
 
     adds-rightly : Rightly t past (adds key)
-    unfolding answered right added outcome
+    unfolding answered right added outcomeAnswer
     adds-rightly =
         by-test (known (key .protocol))
         (λ e1.
@@ -101,7 +101,7 @@ module _ (t : List ℕ) (past : List Event) (k : Keeping t past) where
         (λ e1. rightly t past (adds key) (refused 10) t (rw e1) (rw e1) (quiet (adds key) 10 refl))
 
     removes-rightly : Rightly t past (removes key)
-    unfolding answered right removed outcome
+    unfolding answered right removed outcomeAnswer
     removes-rightly =
         by-test (lives key past)
         (λ e. rightly t past (removes key) (done (1 ∷ [])) (emptied t (find t key)) (rw (absent key, e)) (rw e) (ends-life e))
@@ -109,9 +109,9 @@ module _ (t : List ℕ) (past : List Event) (k : Keeping t past) where
 
   -- ---- packets
 
-  module _ (destination protocol : ℕ) (whole : Bool) (s : List ℕ) where
+  module _ (destination protocol : ℕ) (integrity : Bool) (s : List ℕ) where
     abbrev c : Call
-    c = shows destination protocol whole s
+    c = shows destination protocol integrity s
 
     module _ (spi number : ℕ) (is : read protocol s ≡ Read spi number) where
       abbrev key : Key
@@ -139,10 +139,10 @@ module _ (t : List ℕ) (past : List Event) (k : Keeping t past) where
       judged-rightly l =
           let here : find t key < rooms = ltb-true (find t key) rooms (k .present key ∙ l) in
           let e : Entry = entryAt t (find t key) in
-          let j : Judged = judged (e .receive) number whole in
-          let a : Answer = rightNumber (accepted key past) number whole in
+          let j : Judged = judged (e .receive) number integrity in
+          let a : Answer = rightNumber (accepted key past) number integrity in
           let q : (answer (j .verdict) ≡ a) × Shows (j .receive) (after a number (accepted key past)) =
-          one-step (e .receive) (accepted key past) (k .entry key here .shown) number whole in
+          one-step (e .receive) (accepted key past) (k .entry key here .shown) number integrity in
           rightly t past c a (putEntry t (find t key) (record { receive = j .receive; sent = e .sent }))
           (rw (is, absent key, l, q .0))
           (rw (is, l))
@@ -192,7 +192,7 @@ module _ (t : List ℕ) (past : List Event) (k : Keeping t past) where
           (rw (same-self key) (record { shown = k .entry key here .shown; counts = omega arith }))
 
       sent-rightly : Rightly t past (sends key)
-      unfolding answered right sent handedOut sending
+      unfolding answered right sent handedOut sendingAnswer
       sent-rightly =
           by-test (leb 4294967295 last)
           (λ e. rightly t past (sends key) (refused 8198) t (rw (absent key, l, counted-so, e)) (rw (l, e)) (quiet (sends key) 8198 refl))
@@ -201,7 +201,7 @@ module _ (t : List ℕ) (past : List Event) (k : Keeping t past) where
           (rw (absent key, l, counted-so, e)) (rw (l, e)) hands-out)
 
       asked-rightly : Rightly t past (asks key)
-      unfolding answered right loss counted lives accepted handed entries
+      unfolding answered right loss countedAnswer lives accepted handed entries
       asked-rightly =
           let r : Receive = entryAt t (find t key) .receive in
           let shows-it : Shows r (accepted key past) = k .entry key here .shown in
@@ -211,13 +211,13 @@ module _ (t : List ℕ) (past : List Event) (k : Keeping t past) where
           (keeps-said k (λ b. by-test (same (keyOf (asks key)) b) (λ h. rw h) (λ h. rw h)) refl)
 
     sends-rightly : Rightly t past (sends key)
-    unfolding answered right sent sending
+    unfolding answered right sent sendingAnswer
     sends-rightly =
         by-test (lives key past) sent-rightly
         (λ l. rightly t past (sends key) (refused 11) t (rw (absent key, l)) (rw l) (quiet (sends key) 11 refl))
 
     asks-rightly : Rightly t past (asks key)
-    unfolding answered right loss counted
+    unfolding answered right loss countedAnswer
     asks-rightly =
         by-test (lives key past) asked-rightly
         (λ l. rightly t past (asks key) (refused 11) t (rw (absent key, l)) (rw l) (quiet (asks key) 11 refl))
@@ -225,7 +225,7 @@ module _ (t : List ℕ) (past : List Event) (k : Keeping t past) where
   pub call-rightly : (c : Call) → Rightly t past c
   call-rightly (adds key) = adds-rightly key
   call-rightly (removes key) = removes-rightly key
-  call-rightly (shows destination protocol whole s) = shows-rightly destination protocol whole s
+  call-rightly (shows destination protocol integrity s) = shows-rightly destination protocol integrity s
   call-rightly (sends key) = sends-rightly key
   call-rightly (asks key) = asks-rightly key
 

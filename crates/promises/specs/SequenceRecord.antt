@@ -124,22 +124,22 @@ abbrev pub after : Answer → ℕ → List ℕ → List ℕ
 after a n h = if isDone a then n ∷ h else h
 
 -- a refusal leaves the record as it is
-pub judged-refused : (r : Receive) (n : ℕ) (whole : Bool) → isDone (answer (judged r n whole .verdict)) ≡ false → judged r n whole .receive ≡ r
+pub judged-refused : (r : Receive) (n : ℕ) (integrity : Bool) → isDone (answer (judged r n integrity .verdict)) ≡ false → judged r n integrity .receive ≡ r
 unfolding judged answer
-judged-refused r n whole h =
+judged-refused r n integrity h =
     by-test (behind (r .highest) n) (λ b. rw b)
-    (λ b. by-test (acceptedBefore r n) (λ again. rw (b, again)) (λ again. by-test whole (λ w. clash (sym (rw (b, again, w) at h))) (λ w. rw (b, again, w))))
+    (λ b. by-test (acceptedBefore r n) (λ again. rw (b, again)) (λ again. by-test integrity (λ w. clash (sym (rw (b, again, w) at h))) (λ w. rw (b, again, w))))
 
-pub one-step : (r : Receive) (h : List ℕ) → Shows r h → (n : ℕ) (whole : Bool)
-    → (answer (judged r n whole .verdict) ≡ rightNumber h n whole) × Shows (judged r n whole .receive) (after (rightNumber h n whole) n h)
+pub one-step : (r : Receive) (h : List ℕ) → Shows r h → (n : ℕ) (integrity : Bool)
+    → (answer (judged r n integrity .verdict) ≡ rightNumber h n integrity) × Shows (judged r n integrity .receive) (after (rightNumber h n integrity) n h)
 unfolding judged rightNumber answer
-one-step r h s n whole =
+one-step r h s n integrity =
     let top : behind (r .highest) n ≡ behind (highest h) n = ap (λ (x : ℕ). behind x n) (s .top) in
     by-test (behind (highest h) n) (λ b. rw (top, b) (refl, s))
     (λ b.
     let again = before-member r h s n b in
     by-test (member n h) (λ m. rw (top, b, again, m) (refl, s))
-    (λ m. by-test whole (λ w. rw (top, b, again, m, w) (refl, takes r h s n (live n (highest h) b .0) (live n (highest h) b .1) m)) (λ w. rw (top, b, again, m, w) (refl, s))))
+    (λ m. by-test integrity (λ w. rw (top, b, again, m, w) (refl, takes r h s n (live n (highest h) b .0) (live n (highest h) b .1) m)) (λ w. rw (top, b, again, m, w) (refl, s))))
 
 pub starts : Shows fresh []
 starts = record { top = refl; fits = lit< tt; bits = λ k l. zero-bit k; no-zero = refl }

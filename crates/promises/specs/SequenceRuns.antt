@@ -48,14 +48,14 @@ by-deed past key c A nothing its =
 -- ---- once only
 
 -- a number that is right to accept was not accepted before
-accepts-new : (numbers : List ℕ) (n : ℕ) (whole : Bool) → isDone (rightNumber numbers n whole) ≡ true → member n numbers ≡ false
+accepts-new : (numbers : List ℕ) (n : ℕ) (integrity : Bool) → isDone (rightNumber numbers n integrity) ≡ true → member n numbers ≡ false
 unfolding rightNumber
-accepts-new numbers n whole = of (eqb n 0 || leb (n + 64) (highest numbers)) (member n numbers) whole
+accepts-new numbers n integrity = of (eqb n 0 || leb (n + 64) (highest numbers)) (member n numbers) integrity
   where
-    of : (b again whole : Bool) → isDone (if b then refused 8197 else if again then refused 8194 else if not whole then refused 24 else done (1 ∷ [])) ≡ true → again ≡ false
-    of true again whole h = clash h
-    of false true whole h = clash h
-    of false false whole h = refl
+    of : (b again integrity : Bool) → isDone (if b then refused 8197 else if again then refused 8194 else if not integrity then refused 24 else done (1 ∷ [])) ≡ true → again ≡ false
+    of true again integrity h = clash h
+    of false true integrity h = clash h
+    of false false integrity h = refl
 
 module _ (past : List Event) (key : Key) (distinct : Distinct (accepted key past)) where
   -- what is done for the key keeps its numbers distinct
@@ -66,15 +66,15 @@ module _ (past : List Event) (key : Key) (distinct : Distinct (accepted key past
   kept-distinct (hands n) h = distinct
   kept-distinct none h = distinct
 
-  packet-new : (destination protocol : ℕ) (whole : Bool) (s : List ℕ) (p : Packet) → read protocol s ≡ p →
-      isDone (rightPacket past destination protocol whole p) ≡ true → keyRead destination protocol p ≡ key → member (numberRead p) (accepted key past) ≡ false
+  packet-new : (destination protocol : ℕ) (integrity : Bool) (s : List ℕ) (p : Packet) → read protocol s ≡ p →
+      isDone (rightPacket past destination protocol integrity p) ≡ true → keyRead destination protocol p ≡ key → member (numberRead p) (accepted key past) ≡ false
   unfolding rightPacket
-  packet-new destination protocol whole s (Refused n) is h e = clash (sym (unread protocol s n is) ∙ h)
-  packet-new destination protocol whole s (Read spi n) is h e =
+  packet-new destination protocol integrity s (Refused n) is h e = clash (sym (unread protocol s n is) ∙ h)
+  packet-new destination protocol integrity s (Read spi n) is h e =
       of (lives key past) (rw e at h)
     where
-      of : (b : Bool) → isDone (if not b then refused 11 else rightNumber (accepted key past) n whole) ≡ true → member n (accepted key past) ≡ false
-      of true h = accepts-new (accepted key past) n whole h
+      of : (b : Bool) → isDone (if not b then refused 11 else rightNumber (accepted key past) n integrity) ≡ true → member n (accepted key past) ≡ false
+      of true h = accepts-new (accepted key past) n integrity h
       of false h = clash h
 
   -- the deed of a call that is answered rightly is no acceptance of a number accepted before
@@ -82,9 +82,9 @@ module _ (past : List Event) (key : Key) (distinct : Distinct (accepted key past
   unfolding right keyOf
   right-new (adds k) h e n d = never (cc)
   right-new (removes k) h e n d = never (cc)
-  right-new (shows destination protocol whole s) h e n d =
+  right-new (shows destination protocol integrity s) h e n d =
       let is : numberRead (read protocol s) ≡ n = cc in
-      rw is at (packet-new destination protocol whole s (read protocol s) refl h e)
+      rw is at (packet-new destination protocol integrity s (read protocol s) refl h e)
   right-new (sends k) h e n d = never (cc)
   right-new (asks k) h e n d = never (cc)
 
@@ -118,7 +118,7 @@ module _ (past : List Event) (key : Key) (counting : handed key past ≡ countdo
   unfolding right keyOf
   right-hands (adds k) h e n d = never (cc)
   right-hands (removes k) h e n d = never (cc)
-  right-hands (shows destination protocol whole s) h e n d = never (cc)
+  right-hands (shows destination protocol integrity s) h e n d = never (cc)
   right-hands (sends k) h e n d = rw (← e) (of (lives k past) (leb 4294967295 (length (handed k past))) h (cc))
     where
       of : (a b : Bool) → isDone (if not a then refused 11 else if b then refused 8198 else done ((length (handed k past) + 1) ∷ [])) ≡ true →

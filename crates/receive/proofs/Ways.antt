@@ -33,7 +33,7 @@ shifted-lt w d = by-test (ltb d 64) (λ e. rw e (mod-lt (w * 2 ^ d) (pow-pos 64)
 shifted-even : (w d : ℕ) → 0 < d → bit (shifted w d) 0 ≡ 0
 shifted-even w d h = by-test (ltb d 64) (λ e. rw e (shl-low 64 d 0 w (lit< tt) h)) (λ e. rw e)
 
-module _ (r : Receive) (n : ℕ) (whole : Bool) where
+module _ (r : Receive) (n : ℕ) (integrity : Bool) where
   -- a number above the highest: neither behind the window nor accepted before
   module _ (l : r .highest < n) where
     ahead : behind (r .highest) n ≡ false
@@ -42,7 +42,7 @@ module _ (r : Receive) (n : ℕ) (whole : Bool) where
     unseen : acceptedBefore r n ≡ false
     unseen = rw (lt-leb n (r .highest) l)
 
-    pub above-broken : not whole ≡ true → record { receive = r; verdict = Refused 24 } ≡ judged r n whole
+    pub above-broken : not integrity ≡ true → record { receive = r; verdict = Refused 24 } ≡ judged r n integrity
     unfolding judged
     above-broken h = rw (ahead, unseen, h)
 
@@ -53,13 +53,13 @@ module _ (r : Receive) (n : ℕ) (whole : Bool) where
       above-taken : record { highest = n; window = s + 1 } ≡ taken r n
       above-taken = rw (es, max-eq-left (le-of-lt l), sub-self n)
 
-      pub above-accepted : not whole ≡ false → record { receive = record { highest = n; window = s + 1 }; verdict = Accepted } ≡ judged r n whole
+      pub above-accepted : not integrity ≡ false → record { receive = record { highest = n; window = s + 1 }; verdict = Accepted } ≡ judged r n integrity
       unfolding judged
       above-accepted h = rw (ahead, unseen, h, above-taken)
 
   -- a number that is not above it
   module _ (l : n ≤ r .highest) (b : Bool) (eb : b ≡ behind (r .highest) n) where
-    pub refused-behind : b ≡ true → record { receive = r; verdict = Refused 8197 } ≡ judged r n whole
+    pub refused-behind : b ≡ true → record { receive = r; verdict = Refused 8197 } ≡ judged r n integrity
     unfolding judged
     refused-behind h = rw (← eb, h)
 
@@ -67,12 +67,12 @@ module _ (r : Receive) (n : ℕ) (whole : Bool) where
       pub within : r .highest - n < 64
       within = omega (arith, leb-false (n + 64) (r .highest) (neither (eqb n 0) (leb (n + 64) (r .highest)) (sym eb ∙ live) .1))
 
-      pub refused-again : eqb (bit (r .window) (r .highest - n)) 1 ≡ true → record { receive = r; verdict = Refused 8194 } ≡ judged r n whole
+      pub refused-again : eqb (bit (r .window) (r .highest - n)) 1 ≡ true → record { receive = r; verdict = Refused 8194 } ≡ judged r n integrity
       unfolding judged
       refused-again h = rw (← eb, live, le-leb n (r .highest) l, h)
 
       module _ (unmarked : eqb (bit (r .window) (r .highest - n)) 1 ≡ false) where
-        pub refused-broken : not whole ≡ true → record { receive = r; verdict = Refused 24 } ≡ judged r n whole
+        pub refused-broken : not integrity ≡ true → record { receive = r; verdict = Refused 24 } ≡ judged r n integrity
         unfolding judged
         refused-broken h = rw (← eb, live, le-leb n (r .highest) l, unmarked, h)
 
@@ -86,8 +86,8 @@ module _ (r : Receive) (n : ℕ) (whole : Bool) where
           late-taken : record { highest = r .highest; window = r .window + 1 * 2 ^ (r .highest - n) % 2 ^ 64 } ≡ taken r n
           late-taken = rw (max-eq-right l, sub-self (r .highest), one-shl (r .highest - n) within, mul-one (r .window), mod-eq-of-lt f)
 
-          pub late-accepted : not whole ≡ false →
-              record { receive = record { highest = r .highest; window = r .window + 1 * 2 ^ (r .highest - n) % 2 ^ 64 }; verdict = Accepted } ≡ judged r n whole
+          pub late-accepted : not integrity ≡ false →
+              record { receive = record { highest = r .highest; window = r .window + 1 * 2 ^ (r .highest - n) % 2 ^ 64 }; verdict = Accepted } ≡ judged r n integrity
           unfolding judged
           late-accepted h = rw (← eb, live, le-leb n (r .highest) l, unmarked, h, late-taken)
 

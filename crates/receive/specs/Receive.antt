@@ -41,13 +41,13 @@ taken r number =
       window = shifted (r .window) (max number (r .highest) - r .highest) + 2 ^ (max number (r .highest) - number);
     }
 
--- "number 0, or number plus 64 not above H: 8197; accepted before: 8194; integrity no: 24; else accepted"; whole is what the caller says
--- of the integrity
+-- "number 0, or number plus 64 not above H: 8197; accepted before: 8194; integrity no: 24; else accepted"; integrity is what the caller
+-- says of it
 unfoldable pub judged : Receive → ℕ → Bool → Judged
-judged r number whole =
+judged r number integrity =
     if behind (r .highest) number then record { receive = r; verdict = Refused 8197 }
     else if acceptedBefore r number then record { receive = r; verdict = Refused 8194 }
-    else if not whole then record { receive = r; verdict = Refused 24 }
+    else if not integrity then record { receive = r; verdict = Refused 24 }
     else record { receive = taken r number; verdict = Accepted }
 
 -- "A loss line gives H, the lesser of H and 64, and how many of those last numbers were accepted": ones counted in the window

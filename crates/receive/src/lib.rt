@@ -52,14 +52,14 @@ fn shifted(window: u64, places: u64) -> u64
 }
 
 // The step of a number above the highest, as most are: it is neither behind the window nor accepted before, so neither is tested.
-fn step_above(r: Receive, number: u32, whole: bool) -> Judged
+fn step_above(r: Receive, number: u32, integrity: bool) -> Judged
     requires { ⌜ r .highest < number ⌝ }
-    ensures { λ j. ⌜ j ≡ judged r number whole ⌝ }
+    ensures { λ j. ⌜ j ≡ judged r number integrity ⌝ }
 {
     let highest = r.highest;
     let window = r.window;
     let n = number as u64;
-    if !whole {
+    if !integrity {
         return Judged {
             receive: r,
             verdict: Verdict::Refused(24),
@@ -75,9 +75,9 @@ fn step_above(r: Receive, number: u32, whole: bool) -> Judged
 }
 
 // The step of any other number.
-fn step_not_above(r: Receive, number: u32, whole: bool) -> Judged
+fn step_not_above(r: Receive, number: u32, integrity: bool) -> Judged
     requires { ⌜ number ≤ r .highest ⌝ }
-    ensures { λ j. ⌜ j ≡ judged r number whole ⌝ }
+    ensures { λ j. ⌜ j ≡ judged r number integrity ⌝ }
 {
     let highest = r.highest;
     let window = r.window;
@@ -95,7 +95,7 @@ fn step_not_above(r: Receive, number: u32, whole: bool) -> Judged
             verdict: Verdict::Refused(8194),
         };
     }
-    if !whole {
+    if !integrity {
         return Judged {
             receive: r,
             verdict: Verdict::Refused(24),
@@ -110,16 +110,16 @@ fn step_not_above(r: Receive, number: u32, whole: bool) -> Judged
     }
 }
 
-// What a packet with this number does to the record; whole says that its integrity holds.
-pub fn step(r: Receive, number: u32, whole: bool) -> Judged
-    ensures { λ j. ⌜ j ≡ judged r number whole ⌝ }
+// What a packet with this number does to the record; integrity is what the caller says of it.
+pub fn step(r: Receive, number: u32, integrity: bool) -> Judged
+    ensures { λ j. ⌜ j ≡ judged r number integrity ⌝ }
 {
     let highest = r.highest;
     // By a return and not an else: compiled so, the two ways stay apart to the end, and a step is a fifth shorter.
     if highest < number as u64 {
-        return step_above(r, number, whole);
+        return step_above(r, number, integrity);
     }
-    step_not_above(r, number, whole)
+    step_not_above(r, number, integrity)
 }
 
 // How many numbers a loss line looks at.
@@ -143,20 +143,20 @@ pub fn loss_line(r: Receive) -> LossLine
 }
 
 // The step where the caller's record stands: it is brought up to date, and the verdict comes back.
-pub fn step_in_place(r: &mut Receive, number: u32, whole: bool) -> Verdict
-    ensures { λ v. ⌜ judged (now (r .entry)) number whole ≡ record { receive = now (r .exit); verdict = v } ⌝ }
+pub fn step_in_place(r: &mut Receive, number: u32, integrity: bool) -> Verdict
+    ensures { λ v. ⌜ judged (now (r .entry)) number integrity ≡ record { receive = now (r .exit); verdict = v } ⌝ }
 {
-    let j = step(*r, number, whole);
+    let j = step(*r, number, integrity);
     *r = j.receive;
     j.verdict
 }
 
 // The same step by the lent call, for a caller that holds the record by value: such a caller needs no proof by hand.
-pub fn step_lent(r: Receive, number: u32, whole: bool) -> Judged
-    ensures { λ both. ⌜ both ≡ judged r number whole ⌝ }
+pub fn step_lent(r: Receive, number: u32, integrity: bool) -> Judged
+    ensures { λ both. ⌜ both ≡ judged r number integrity ⌝ }
 {
     let mut lent = r;
-    let verdict = step_in_place(&mut lent, number, whole);
+    let verdict = step_in_place(&mut lent, number, integrity);
     Judged {
         receive: lent,
         verdict,

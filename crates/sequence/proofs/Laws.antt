@@ -1,6 +1,6 @@
 -- The laws of specs/Table.antt that the promises cite: what a search finds, and what a call leaves in each room.
 use Prim.Native.Nat.{ℕ, zero, suc, _+_, _*_, _≤_, _<_}
-use mathlib.Core.Path.{_≡_, refl, sym, ap, _∙_}
+use mathlib.Core.Path.{_≡_, refl, ap, _∙_}
 use mathlib.Core.List.{List}
 use mathlib.Core.Bool.{Bool, true, false, _&&_, and-false}
 use native.Mathlib.Omega.{arith}
@@ -11,39 +11,39 @@ use borrow.Author.Tests.{eq-eqb, ne-eqb, eqb-true, eqb-false}
 use Rattle.wire.proofs.Tests.{both, by-test}
 use Rattle.sequence.specs.declared.table.Key.{Key}
 use Rattle.sequence.specs.declared.table.Entry.{Entry}
-use Rattle.sequence.specs.Table.{rooms, words, holds, isFree, first, find, free, entryAt, putEntry, putKey, emptied}
+use Rattle.sequence.specs.Table.{rooms, words, holds, isFree, firstPlace, find, free, entryAt, putEntry, putKey, emptied}
 
 -- ---- the first place that passes a test
 
 module _ (test : ℕ → Bool) where
-  first-finds : (n i : ℕ) → first test n i < i + n → test (first test n i) ≡ true
-  unfolding first
+  first-finds : (n i : ℕ) → firstPlace test n i < i + n → test (firstPlace test n i) ≡ true
+  unfolding firstPlace
   first-finds zero i h = absurd (omega arith)
   first-finds (suc n) i h = by-test (test i) (λ e. rw e e) (λ e. rw e (first-finds n (i + 1) (omega (arith, rw e at h))))
 
-  first-skips : (n i j : ℕ) → i ≤ j → j < first test n i → test j ≡ false
-  unfolding first
+  first-skips : (n i j : ℕ) → i ≤ j → j < firstPlace test n i → test j ≡ false
+  unfolding firstPlace
   first-skips zero i j l h = absurd (omega arith)
   first-skips (suc n) i j l h =
       by-test (test i)
       (λ e. let z : j < i = rw e at h in absurd (omega arith))
       (λ e.
-      let g : j < first test n (i + 1) = rw e at h in
+      let g : j < firstPlace test n (i + 1) = rw e at h in
       by-test (eqb i j)
       (λ q. rw (← eqb-true i j q) e)
       (λ q. let d : i ≡ j → ⊥ = eqb-false i j q in first-skips n (i + 1) j (omega arith) g))
 
   -- a place that passes, or the one behind them, with none before it
-  first-is : (n i x : ℕ) → i ≤ x → x ≤ i + n → (x < i + n → test x ≡ true) → ((j : ℕ) → i ≤ j → j < x → test j ≡ false) → first test n i ≡ x
-  unfolding first
+  first-is : (n i x : ℕ) → i ≤ x → x ≤ i + n → (x < i + n → test x ≡ true) → ((j : ℕ) → i ≤ j → j < x → test j ≡ false) → firstPlace test n i ≡ x
+  unfolding firstPlace
   first-is zero i x l m h none = omega arith
   first-is (suc n) i x l m h none =
       by-test (eqb i x)
       (λ q. let e : i ≡ x = eqb-true i x q in rw (ap test e ∙ h (omega arith)) e)
       (λ q. let d : i ≡ x → ⊥ = eqb-false i x q in rw (none i (omega arith) (omega arith)) (first-is n (i + 1) x (omega arith) (omega arith) (λ g. h (omega arith)) (λ j a b. none j (omega arith) b)))
 
-first-same : (p q : ℕ → Bool) (n i : ℕ) → ((j : ℕ) → i ≤ j → j < i + n → p j ≡ q j) → first p n i ≡ first q n i
-unfolding first
+first-same : (p q : ℕ → Bool) (n i : ℕ) → ((j : ℕ) → i ≤ j → j < i + n → p j ≡ q j) → firstPlace p n i ≡ firstPlace q n i
+unfolding firstPlace
 first-same p q zero i h = refl
 first-same p q (suc n) i h =
     rw (h i (omega arith) (omega arith), first-same p q n (i + 1) (λ j l g. h j (omega arith) (omega arith)))

@@ -8,22 +8,20 @@ use lib.Dec.{ltb, leb, eqb}
 use Rattle.wire.specs.Tests.{if_then_else_}
 use Rattle.wire.specs.Answer.{Answer, done, refused}
 use Rattle.receive.specs.declared.Verdict.{Verdict}
-use Rattle.receive.specs.declared.Verdict.the-variants as Y
+use Rattle.receive.specs.declared.Verdict.the-variants as Verdicts
 use Rattle.receive.specs.declared.Judged.{Judged}
 use Rattle.packets.specs.declared.Packet.{Packet}
-use Rattle.packets.specs.declared.Packet.the-variants as P
+use Rattle.packets.specs.declared.Packet.the-variants as Packets
 use Rattle.sequence.specs.declared.table.Key.{Key}
 use Rattle.sequence.specs.declared.table.Entry.{Entry}
 use Rattle.sequence.specs.declared.table.Outcome.{Outcome}
-use Rattle.sequence.specs.declared.table.Outcome.the-variants as O
+use Rattle.sequence.specs.declared.table.Outcome.the-variants as Outcomes
 use Rattle.sequence.specs.declared.table.Sending.{Sending}
-use Rattle.sequence.specs.declared.table.Sending.the-variants as S
+use Rattle.sequence.specs.declared.table.Sending.the-variants as Sendings
 use Rattle.sequence.specs.declared.table.Counted.{Counted}
-use Rattle.sequence.specs.declared.table.Counted.the-variants as C
+use Rattle.sequence.specs.declared.table.Counted.the-variants as Counts
 use Rattle.receive.specs.Receive.{fresh, judged, lossLine}
 use Rattle.packets.specs.Packets.{known, read}
-
--- Y, P, O, S and C have the cases of Verdict, Packet, Outcome, Sending and Counted
 
 -- ---- rooms
 
@@ -47,16 +45,16 @@ unfoldable pub isFree : List ℕ → ℕ → Bool
 isFree t i = eqb (getD t (i * words) 0) 0
 
 -- the first place from i on that passes the test, so many are looked at; the one behind them where none passes
-unfoldable pub first : (ℕ → Bool) → ℕ → ℕ → ℕ
-first test zero i = i
-first test (suc left) i = if test i then i else first test left (i + 1)
+unfoldable pub firstPlace : (ℕ → Bool) → ℕ → ℕ → ℕ
+firstPlace test zero i = i
+firstPlace test (suc left) i = if test i then i else firstPlace test left (i + 1)
 
 -- the key's room, 64 where it has none
 unfoldable pub find : List ℕ → Key → ℕ
-find t key = first (holds t key) rooms 0
+find t key = firstPlace (holds t key) rooms 0
 
 unfoldable pub free : List ℕ → ℕ
-free t = first (isFree t) rooms 0
+free t = firstPlace (isFree t) rooms 0
 
 unfoldable pub entryAt : List ℕ → ℕ → Entry
 entryAt t i = record { receive = record { highest = getD t (i * words + 3) 0; window = getD t (i * words + 4) 0 }; sent = getD t (i * words + 5) 0 }
@@ -79,62 +77,62 @@ newEntry = record { receive = fresh; sent = 0 }
 -- "Adding: protocol 10, SPI below 256 11, present 8200, full 8199"; "Freed room is used."
 unfoldable pub added : List ℕ → Key → Outcome × List ℕ
 added t key =
-    if not (known (key .protocol)) then (O.Refused 10, t)
-    else if ltb (key .spi) 256 then (O.Refused 11, t)
-    else if ltb (find t key) rooms then (O.Refused 8200, t)
-    else if leb rooms (free t) then (O.Refused 8199, t)
-    else (O.Done, putEntry (putKey t (free t) key) (free t) newEntry)
+    if not (known (key .protocol)) then (Outcomes.Refused 10, t)
+    else if ltb (key .spi) 256 then (Outcomes.Refused 11, t)
+    else if ltb (find t key) rooms then (Outcomes.Refused 8200, t)
+    else if leb rooms (free t) then (Outcomes.Refused 8199, t)
+    else (Outcomes.Done, putEntry (putKey t (free t) key) (free t) newEntry)
 
 -- "any other call on an absent key 11"
 unfoldable pub removed : List ℕ → Key → Outcome × List ℕ
 removed t key =
-    if leb rooms (find t key) then (O.Refused 11, t)
-    else (O.Done, emptied t (find t key))
+    if leb rooms (find t key) then (Outcomes.Refused 11, t)
+    else (Outcomes.Done, emptied t (find t key))
 
 -- a step of the record in a room
 unfoldable pub judgedAt : List ℕ → ℕ → Judged → Verdict × List ℕ
 judgedAt t i j = (j .verdict, putEntry t i (record { receive = j .receive; sent = entryAt t i .sent }))
 
 unfoldable pub packetRead : List ℕ → ℕ → ℕ → Bool → Packet → Verdict × List ℕ
-packetRead t destination protocol whole (P.Refused number) = (Y.Refused number, t)
-packetRead t destination protocol whole (P.Read spi number) =
+packetRead t destination protocol integrity (Packets.Refused number) = (Verdicts.Refused number, t)
+packetRead t destination protocol integrity (Packets.Read spi number) =
     at (find t (record { destination = destination; protocol = protocol; spi = spi }))
   where
     at : ℕ → Verdict × List ℕ
     at i =
-        if leb rooms i then (Y.Refused 11, t)
-        else judgedAt t i (judged (entryAt t i .receive) number whole)
+        if leb rooms i then (Verdicts.Refused 11, t)
+        else judgedAt t i (judged (entryAt t i .receive) number integrity)
 
 -- "A packet's protocol not 2 or 3: 10. AH .. ESP .. else 16. Then entry 11." Then the step.
 unfoldable pub packet : List ℕ → ℕ → ℕ → Bool → List ℕ → Verdict × List ℕ
-packet t destination protocol whole s = packetRead t destination protocol whole (read protocol s)
+packet t destination protocol integrity s = packetRead t destination protocol integrity (read protocol s)
 
 -- "Sending counts from 1; after 4,294,967,295: 8198"
 unfoldable pub handedOut : List ℕ → ℕ → Entry → Sending × List ℕ
 handedOut t i e =
-    if leb 4294967295 (e .sent) then (S.Refused 8198, t)
-    else (S.Number (e .sent + 1), putEntry t i (record { receive = e .receive; sent = e .sent + 1 }))
+    if leb 4294967295 (e .sent) then (Sendings.Refused 8198, t)
+    else (Sendings.Number (e .sent + 1), putEntry t i (record { receive = e .receive; sent = e .sent + 1 }))
 
 unfoldable pub sent : List ℕ → Key → Sending × List ℕ
 sent t key =
-    if leb rooms (find t key) then (S.Refused 11, t)
+    if leb rooms (find t key) then (Sendings.Refused 11, t)
     else handedOut t (find t key) (entryAt t (find t key))
 
 unfoldable pub loss : List ℕ → Key → Counted
 loss t key =
-    if leb rooms (find t key) then C.Refused 11
-    else C.Line (lossLine (entryAt t (find t key) .receive))
+    if leb rooms (find t key) then Counts.Refused 11
+    else Counts.Line (lossLine (entryAt t (find t key) .receive))
 
 -- ---- the paper's number and values for each case
 
-unfoldable pub outcome : Outcome → Answer
-outcome O.Done = done (1 ∷ [])
-outcome (O.Refused number) = refused number
+unfoldable pub outcomeAnswer : Outcome → Answer
+outcomeAnswer Outcomes.Done = done (1 ∷ [])
+outcomeAnswer (Outcomes.Refused number) = refused number
 
-unfoldable pub sending : Sending → Answer
-sending (S.Number n) = done (n ∷ [])
-sending (S.Refused number) = refused number
+unfoldable pub sendingAnswer : Sending → Answer
+sendingAnswer (Sendings.Number n) = done (n ∷ [])
+sendingAnswer (Sendings.Refused number) = refused number
 
-unfoldable pub counted : Counted → Answer
-counted (C.Line l) = done (l .highest ∷ l .span ∷ l .count ∷ [])
-counted (C.Refused number) = refused number
+unfoldable pub countedAnswer : Counted → Answer
+countedAnswer (Counts.Line l) = done (l .highest ∷ l .span ∷ l .count ∷ [])
+countedAnswer (Counts.Refused number) = refused number

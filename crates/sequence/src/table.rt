@@ -162,9 +162,9 @@ pub fn remove(t: &mut Table, key: Key) -> Outcome
     Outcome::Done
 }
 
-// A packet to a destination; whole says that its integrity holds.
-pub fn packet(t: &mut Table, destination: u32, protocol: u8, whole: bool, s: &[u8]) -> Verdict
-    ensures { λ r. ⌜ packet (now (t .entry)) destination protocol whole (now (s .entry)) ≡ (r, now (t .exit)) ⌝ }
+// A packet to a destination; integrity is what the caller says of it.
+pub fn packet(t: &mut Table, destination: u32, protocol: u8, integrity: bool, s: &[u8]) -> Verdict
+    ensures { λ r. ⌜ packet (now (t .entry)) destination protocol integrity (now (s .entry)) ≡ (r, now (t .exit)) ⌝ }
 {
     let p = read(protocol, s);
     match p {
@@ -183,7 +183,7 @@ pub fn packet(t: &mut Table, destination: u32, protocol: u8, whole: bool, s: &[u
             }
             let e = entry_at(t, i);
             let receive = e.receive;
-            let j = step(receive, number, whole);
+            let j = step(receive, number, integrity);
             let after = j.receive;
             put_entry(
                 t,

@@ -3,17 +3,17 @@ use Prim.Native.Nat.{ℕ}
 use mathlib.Core.Path.{_≡_, sym, ap}
 use borrow.Author.Needs.{needs}
 use Rattle.receive.specs.declared.Verdict.{Verdict}
-use Rattle.receive.specs.declared.Verdict.the-variants as Y
+use Rattle.receive.specs.declared.Verdict.the-variants as Verdicts
 use Rattle.exports.specs.Exports.{verdictPacked}
 use Rattle.exports.proofs.verdict_packed.Statement.{statement}
 use Rattle.exports.proofs.verdict_packed.Tie as tie
 
 module _ (verdict : Verdict) where
-  packed-accepted : verdict ≡ Y.Accepted → 65536 ≡ verdictPacked verdict
+  packed-accepted : verdict ≡ Verdicts.Accepted → 65536 ≡ verdictPacked verdict
   unfolding verdictPacked
   packed-accepted is = ap verdictPacked (sym is)
 
-  packed-refused : (number : ℕ) → verdict ≡ Y.Refused number → number ≡ verdictPacked verdict
+  packed-refused : (number : ℕ) → verdict ≡ Verdicts.Refused number → number ≡ verdictPacked verdict
   unfolding verdictPacked
   packed-refused number is = ap verdictPacked (sym is)
 

@@ -1,7 +1,7 @@
 -- Invariant: what is looked for from i on is what is looked for from the start. Each way out is a law of Ways.
 use borrow.Author.Needs.{needs}
 use Rattle.sequence.proofs.Ways.{first-end, first-here, first-on}
-use Rattle.sequence.specs.Table.{rooms, holds, first, find}
+use Rattle.sequence.specs.Table.{rooms, holds, firstPlace, find}
 use native.Mathlib.Omega.{arith}
 use mathlib.Core.Path.{_≡_, refl}
 use Prim.Native.Nat.{_-_, _≤_}
@@ -9,7 +9,7 @@ use Rattle.sequence.proofs.table.find.Statement.{statement}
 use Rattle.sequence.proofs.table.find.Tie as tie
 
 abbrev Inv-loop : tie.InvT-loop
-Inv-loop t key i₀ i = (i ≤ rooms) × (first (holds t key) (rooms - i) i ≡ find t key)
+Inv-loop t key i₀ i = (i ≤ rooms) × (firstPlace (holds t key) (rooms - i) i ≡ find t key)
 
 abbrev μ-loop : tie.MeasureT-loop
 μ-loop t key i₀ i = rooms - i

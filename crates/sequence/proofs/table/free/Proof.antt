@@ -1,7 +1,7 @@
 -- Invariant: what is looked for from i on is what is looked for from the start. Each way out is a law of Ways.
 use borrow.Author.Needs.{needs}
 use Rattle.sequence.proofs.Ways.{first-end, free-here, free-on}
-use Rattle.sequence.specs.Table.{rooms, isFree, first, free}
+use Rattle.sequence.specs.Table.{rooms, isFree, firstPlace, free}
 use native.Mathlib.Omega.{arith}
 use mathlib.Core.Path.{_≡_, refl}
 use Prim.Native.Nat.{_-_, _≤_}
@@ -9,7 +9,7 @@ use Rattle.sequence.proofs.table.free.Statement.{statement}
 use Rattle.sequence.proofs.table.free.Tie as tie
 
 abbrev Inv-loop : tie.InvT-loop
-Inv-loop t i₀ i = (i ≤ rooms) × (first (isFree t) (rooms - i) i ≡ free t)
+Inv-loop t i₀ i = (i ≤ rooms) × (firstPlace (isFree t) (rooms - i) i ≡ free t)
 
 abbrev μ-loop : tie.MeasureT-loop
 μ-loop t i₀ i = rooms - i
