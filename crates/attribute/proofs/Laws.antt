@@ -11,7 +11,7 @@ use borrow.Author.Tests.{eqb-true, eqb-false, ne-eqb, eq-eqb, ltb-false, leb-tru
 use Rattle.wire.specs.Wire.{numberAt}
 use Rattle.wire.specs.Tests.{if_then_else_}
 use Rattle.wire.proofs.Tests.{both, neither, by-test, passed}
-use Rattle.attribute.specs.Attributes.{sentFixed, attributeType, attributeSize, outOfBounds, find, attribute, mustBeFixed, fixedWrong, isDuration, durationWrong, attributeCode, attributesCode, attributesLawful, countFrom, attributeCount}
+use Rattle.attribute.specs.Attributes.{sentFixed, attributeType, attributeSize, outOfBounds, find, attribute, mustBeFixed, fixedWrong, isDuration, durationWrong, attributeCode, attributesFrom, attributesCode, countFrom, attributeCount}
 
 -- how often a type is wanted; each wanted type stands once in a list that is apart
 unfoldable pub wantedTimes : List ℕ → ℕ → ℕ
@@ -161,8 +161,8 @@ module _ (exchange : ℕ) (ws : List ℕ) (once : apart ws ≡ true) (brief : al
         ));
       }
 
-  hit : (k : ℕ) (before s : List ℕ) → attributesCode k exchange before s ≡ 0 → Hit ws k s
-  unfolding attributesCode
+  hit : (k : ℕ) (before s : List ℕ) → attributesFrom k exchange before s ≡ 0 → Hit ws k s
+  unfolding attributesFrom
   hit zero before s h = by-test (eqb (length s) 0) (λ e. hit-none zero s (eqb-true _ _ e)) (λ e. absurd (omega (arith, rw e at h)))
   hit (suc k) before s h =
       let code : ℕ = attributeCode exchange before s in
@@ -172,8 +172,8 @@ module _ (exchange : ℕ) (ws : List ℕ) (once : apart ws ≡ true) (brief : al
       (λ f. absurd (eqb-false code 0 f (rw (e, f) at h))))
 
   -- as many attributes as there are wanted types, each of them there: at most 8 bytes each
-  pub wanted-length : (s : List ℕ) → attributesLawful exchange s ≡ 0 → allThere 16 ws s ≡ true → attributeCount s ≡ length ws → length s ≤ 8 * length ws
-  unfolding attributesLawful attributeCount
+  pub wanted-length : (s : List ℕ) → attributesCode exchange s ≡ 0 → allThere 16 ws s ≡ true → attributeCount s ≡ length ws → length s ≤ 8 * length ws
+  unfolding attributesCode attributeCount
   wanted-length s lawful there count =
       let h = hit 16 [] s lawful in
       omega (arith, h .short (omega (arith, there-hits ws 16 s there)))

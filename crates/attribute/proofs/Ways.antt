@@ -13,7 +13,7 @@ use Rattle.wire.specs.Tests.{if_then_else_}
 use Rattle.wire.proofs.Tests.{by-test}
 use Rattle.wire.proofs.Laws.{number-one, number-join}
 use Rattle.attribute.proofs.Laws.{sound}
-use Rattle.attribute.specs.Attributes.{sentFixed, value, attributeType, attributeSize, outOfBounds, find, attribute, fixedWrong, durationWrong, attributeCode, attributesCode, countFrom}
+use Rattle.attribute.specs.Attributes.{sentFixed, value, attributeType, attributeSize, outOfBounds, find, attribute, fixedWrong, durationWrong, attributeCode, attributesFrom, countFrom}
 
 pub size-variable : (s : List ℕ) (b : Bool) (n : ℕ) → b ≡ sentFixed s → n ≡ numberAt 2 s 2 → b ≡ false → 4 + n ≡ attributeSize s
 unfolding attributeSize
@@ -124,24 +124,24 @@ module _ (exchange : ℕ) (before s : List ℕ) (b : Bool) (eb : b ≡ outOfBoun
 -- ---- all of them
 
 attributes-step : (left exchange : ℕ) (before s : List ℕ) → (left ≡ 0 → ⊥) →
-    attributesCode left exchange before s
+    attributesFrom left exchange before s
     ≡ (if eqb (length s) 0 then 0
     else if not (eqb (attributeCode exchange before s) 0) then attributeCode exchange before s
-    else attributesCode (left - 1) exchange (before ++ take (attributeSize s) s) (drop (attributeSize s) s))
-unfolding attributesCode
+    else attributesFrom (left - 1) exchange (before ++ take (attributeSize s) s) (drop (attributeSize s) s))
+unfolding attributesFrom
 attributes-step zero exchange before s h = absurd (h refl)
 attributes-step (suc left) exchange before s h = let i : suc left - 1 ≡ left = omega arith in rw i
 
 -- at a place in all, from which on the reading goes the way it goes from the start
-module _ (left exchange at : ℕ) (all : List ℕ) (goal : ℕ) (so-far : attributesCode left exchange (take at all) (drop at all) ≡ goal) where
+module _ (left exchange at : ℕ) (all : List ℕ) (goal : ℕ) (so-far : attributesFrom left exchange (take at all) (drop at all) ≡ goal) where
   pub attributes-end : length all ≤ at → 0 ≡ goal
-  unfolding attributesCode
+  unfolding attributesFrom
   attributes-end h = go left ∙ so-far
     where
       none : length (drop at all) ≡ 0
       none = omega (arith, length-drop at all)
 
-      go : (k : ℕ) → 0 ≡ attributesCode k exchange (take at all) (drop at all)
+      go : (k : ℕ) → 0 ≡ attributesFrom k exchange (take at all) (drop at all)
       go zero = rw (eq-eqb (length (drop at all)) 0 none)
       go (suc k) = rw (eq-eqb (length (drop at all)) 0 none)
 
@@ -150,11 +150,11 @@ module _ (left exchange at : ℕ) (all : List ℕ) (goal : ℕ) (so-far : attrib
     some z = omega (arith, length-drop at all)
 
     pub attributes-many : left ≡ 0 → 15 ≡ goal
-    unfolding attributesCode
+    unfolding attributesFrom
     attributes-many z = (rw (z, ne-eqb (length (drop at all)) 0 some) refl) ∙ so-far
 
     module _ (may : left ≡ 0 → ⊥) (before s : List ℕ) (eb : before ≡ take at all) (es : s ≡ drop at all) (code : ℕ) (ec : code ≡ attributeCode exchange before s) where
-      turn : goal ≡ (if not (eqb code 0) then code else attributesCode (left - 1) exchange (before ++ take (attributeSize s) s) (drop (attributeSize s) s))
+      turn : goal ≡ (if not (eqb code 0) then code else attributesFrom (left - 1) exchange (before ++ take (attributeSize s) s) (drop (attributeSize s) s))
       turn = rw (← so-far, attributes-step left exchange (take at all) (drop at all) may, ne-eqb (length (drop at all)) 0 some, ← es, ← eb, ← ec)
 
       pub attributes-refused : (code ≡ 0 → ⊥) → code ≡ goal
@@ -164,7 +164,7 @@ module _ (left exchange at : ℕ) (all : List ℕ) (goal : ℕ) (so-far : attrib
         pub attributes-within : at + n ≤ length all
         attributes-within = omega (arith, sound exchange before s (sym ec ∙ fine) .within, ap length es ∙ length-drop at all)
 
-        pub attributes-on : attributesCode (left - 1) exchange (take (at + n) all) (drop (at + n) all) ≡ goal
+        pub attributes-on : attributesFrom (left - 1) exchange (take (at + n) all) (drop (at + n) all) ≡ goal
         attributes-on = rw (turn, fine, ← en, take-add at n all, ← drop-drop n at all, ← es, ← eb)
 
 -- ---- how many

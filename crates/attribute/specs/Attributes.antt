@@ -63,16 +63,16 @@ attributeCode exchange before s =
     else 0
 
 -- one attribute after the other, at most k, "or a 17th: 15"
-unfoldable pub attributesCode : ℕ → ℕ → List ℕ → List ℕ → ℕ
-attributesCode zero exchange before s = if eqb (length s) 0 then 0 else 15
-attributesCode (suc k) exchange before s =
+unfoldable pub attributesFrom : ℕ → ℕ → List ℕ → List ℕ → ℕ
+attributesFrom zero exchange before s = if eqb (length s) 0 then 0 else 15
+attributesFrom (suc k) exchange before s =
     if eqb (length s) 0 then 0
     else if not (eqb (attributeCode exchange before s) 0) then attributeCode exchange before s
-    else attributesCode k exchange (before ++ take (attributeSize s) s) (drop (attributeSize s) s)
+    else attributesFrom k exchange (before ++ take (attributeSize s) s) (drop (attributeSize s) s)
 
--- whether the attributes of a transform are lawful: 0, or the refusal
-unfoldable pub attributesLawful : ℕ → List ℕ → ℕ
-attributesLawful exchange s = attributesCode 16 exchange [] s
+-- 0 where the attributes of a transform are lawful, else the refusal
+unfoldable pub attributesCode : ℕ → List ℕ → ℕ
+attributesCode exchange s = attributesFrom 16 exchange [] s
 
 -- the number that an attribute's value spells; of a value over 4 bytes, which no rule asks for, the first 4
 unfoldable pub value : List ℕ → ℕ

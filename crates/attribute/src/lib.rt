@@ -5,7 +5,7 @@ use wire::be32;
 use wire::byte;
 use wire::front;
 ghost use mathlib.Core.Path.{_≡_};
-ghost use Rattle.attribute.specs.Attributes.{sentFixed, attributeType, attributeSize, outOfBounds, find, attribute, mustBeFixed, fixedWrong, isDuration, durationWrong, attributeCode, attributesLawful, value, countFrom, attributeCount};
+ghost use Rattle.attribute.specs.Attributes.{sentFixed, attributeType, attributeSize, outOfBounds, find, attribute, mustBeFixed, fixedWrong, isDuration, durationWrong, attributeCode, attributesCode, value, countFrom, attributeCount};
 
 // Whether the attribute has its value in its own four bytes.
 pub fn sent_fixed(s: &[u8]) -> bool
@@ -113,8 +113,8 @@ fn attribute_code(exchange: u8, before: &[u8], s: &[u8]) -> u16
 }
 
 // 0 where a transform's attributes are lawful in the exchange, else the refusal.
-pub fn attributes_lawful(exchange: u8, s: &[u8]) -> u16
-    ensures { λ r. ⌜ r ≡ attributesLawful exchange (now (s .entry)) ⌝ }
+pub fn attributes_code(exchange: u8, s: &[u8]) -> u16
+    ensures { λ r. ⌜ r ≡ attributesCode exchange (now (s .entry)) ⌝ }
 {
     let mut left: u8 = 16;
     let mut at: usize = 0;

@@ -11,7 +11,7 @@ use Rattle.put.specs.Put.{put}
 use Rattle.wire.specs.Tests.{if_then_else_}
 use Rattle.put.proofs.Laws.{put-size, put-made}
 use Rattle.wire.proofs.Tests.{clash, both, by-test, passed}
-use Rattle.identity.specs.Identity.{identity, lawful, quickData}
+use Rattle.identity.specs.Identity.{identityCode, lawful, quickData}
 use Rattle.writing.specs.Messages.{bookOf, lines, longer, proposalsOf, longerInto, messageOne}
 use Rattle.writing.proofs.Laws.{longer-fits}
 use Rattle.ends.specs.Fresh.{isIdle, isInitiator, isGivenUp}
@@ -38,8 +38,8 @@ data-few type s h =
     (λ h7. picked (eqb type 7) _ _ h7 (λ e. omega (arith, eqb-true (length s) 8 e))
     (λ h8. picked (eqb type 8) _ _ h8 (λ e. omega (arith, eqb-true (length s) 32 e)) (λ e. clash e))))))
 
-identity-few : (s : List ℕ) → identity 32 s ≡ 0 → length s ≤ 36
-unfolding identity lawful
+identity-few : (s : List ℕ) → identityCode 32 s ≡ 0 → length s ≤ 36
+unfolding identityCode lawful
 identity-few s h =
     by-test (leb 4 (length s) && quickData (getD s 0 0) (drop 4 s))
     (λ e. omega (arith, data-few (getD s 0 0) (drop 4 s) (both (leb 4 (length s)) _ e .1), length-drop 4 s))
@@ -51,8 +51,8 @@ wrong-few first second h =
     by-test (eqb (length first) 0 && eqb (length second) 0)
     (λ e. let none = both (eqb (length first) 0) (eqb (length second) 0) e in (omega (arith, eqb-true (length first) 0 (none .0)), omega (arith, eqb-true (length second) 0 (none .1))))
     (λ e.
-    let two = both (eqb (identity 32 first) 0) (eqb (identity 32 second) 0) (not-false (eqb (identity 32 first) 0 && eqb (identity 32 second) 0) (rw e at h)) in
-    (identity-few first (eqb-true (identity 32 first) 0 (two .0)), identity-few second (eqb-true (identity 32 second) 0 (two .1))))
+    let two = both (eqb (identityCode 32 first) 0) (eqb (identityCode 32 second) 0) (not-false (eqb (identityCode 32 first) 0 && eqb (identityCode 32 second) 0) (rw e at h)) in
+    (identity-few first (eqb-true (identityCode 32 first) 0 (two .0)), identity-few second (eqb-true (identityCode 32 second) 0 (two .1))))
 
 -- ---- begin
 

@@ -5,7 +5,7 @@ use mathlib.Core.Bool.{Bool, not, _||_, _&&_}
 use lib.ListN.{length}
 use lib.Dec.{eqb}
 use Rattle.wire.specs.Tests.{if_then_else_}
-use Rattle.identity.specs.Identity.{identity}
+use Rattle.identity.specs.Identity.{identityCode}
 use Rattle.writing.specs.Messages.{bookOf, lines, messageOne}
 use Rattle.ends.specs.Fresh.{isIdle, isInitiator, isGivenUp}
 use Rattle.steps.specs.Steps.{After, small, refusing, sending}
@@ -15,7 +15,7 @@ use Rattle.ends.specs.declared.End.{End}
 -- "message ID, and no or two identity bodies"
 unfoldable pub identitiesWrong : List ℕ → List ℕ → Bool
 identitiesWrong first second =
-    not (eqb (length first) 0 && eqb (length second) 0 || eqb (identity 32 first) 0 && eqb (identity 32 second) 0)
+    not (eqb (length first) 0 && eqb (length second) 0 || eqb (identityCode 32 first) 0 && eqb (identityCode 32 second) 0)
 
 -- "8192, 8196, not an Idle initiator 8195, 9, 18, no quick lines 14"
 unfoldable pub beginCode : End → ℕ → List ℕ → List ℕ → Bool → ℕ

@@ -5,6 +5,7 @@ use ends::State;
 use ends::is_given_up;
 use ends::is_idle;
 use ends::is_initiator;
+use identity::identity_code;
 use steps::StepAnswer;
 use steps::Stepped;
 use steps::small;
@@ -20,7 +21,7 @@ fn identities_wrong(first: &[u8], second: &[u8]) -> bool
     ensures { λ r. ⌜ r ≡ identitiesWrong (now (first .entry)) (now (second .entry)) ⌝ }
 {
     let none = (first.len() == 0) & (second.len() == 0);
-    let both = (identity::check(32, first) == 0) & (identity::check(32, second) == 0);
+    let both = (identity_code(32, first) == 0) & (identity_code(32, second) == 0);
     !(none | both)
 }
 

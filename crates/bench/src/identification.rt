@@ -4,6 +4,7 @@ use crate::hex::Decoded;
 use crate::say;
 use crate::say::append;
 use crate::words;
+use identity::identity_code;
 use wire::equal;
 use wire::front;
 
@@ -22,7 +23,7 @@ fn checked(exchange: u8, line: &[u8], bytes: &mut [u8], out: &mut [u8], said: us
     let Decoded::To(end) = hex::decode(words::nth(line, 2), bytes, 0) else {
         return say::bad_line(out, said);
     };
-    let code = identity::check(exchange, front(bytes, end));
+    let code = identity_code(exchange, front(bytes, end));
     if code == 0 {
         append(out, said, b"done")
     } else {

@@ -15,7 +15,7 @@ use Rattle.wire.proofs.Laws.{take-within, drop-within}
 use Rattle.wire.proofs.Tests.{by-test, passed}
 use Rattle.header.specs.Header.{headerCode, exchangeOf, flagsOf, firstPayload}
 use Rattle.message.specs.Payloads.{payloadCode, restCode}
-use Rattle.message.specs.Message.{Reading, refused, payloads, first, chain, reading, counted, message, payloadAt}
+use Rattle.message.specs.Message.{Reading, refused, payloads, inFront, chain, reading, exchangeAndCount, message, payloadAt}
 use Rattle.message.specs.declared.Payload.{Payload}
 use Rattle.message.specs.declared.Message.{Message}
 use Rattle.sets.specs.Sets.{setNumbered}
@@ -34,7 +34,7 @@ use Rattle.checks.specs.Checks.{cookiesWrong, quickCode, readCode}
 use Rattle.taken.specs.Taken.{takenCode, agreedTwo}
 use Rattle.agreed.specs.Agreed.{spisOf, ownSpis}
 use Rattle.steps.specs.Steps.{small, kept, withState}
-use Rattle.deliver.specs.Deliver.{repeated, deliveryCode, identityAt, opened, atInitiator, halfway, answered, atResponder, delivered}
+use Rattle.deliver.specs.Deliver.{repeated, deliveryCode, identityAt, opened, atInitiator, halfway, afterChoice, atResponder, delivered}
 use Rattle.ends.specs.declared.State.{State}
 use Rattle.ends.specs.declared.State.the-variants.{Idle, Sent, Half, Open, GivenUp}
 use Rattle.ends.specs.declared.Own.{Own}
@@ -120,10 +120,10 @@ numberOf (payloads ps) = 1
 some : (code : ℕ) → not (eqb code 0) ≡ true → 0 < code
 some code h = omega (arith, eqb-false code 0 (not-true (eqb code 0) h))
 
-first-some : (p : Payload) (r : Reading) → 0 < numberOf r → 0 < numberOf (first p r)
-unfolding first numberOf
-first-some p (refused number) h = h
-first-some p (payloads ps) h = h
+front-some : (p : Payload) (r : Reading) → 0 < numberOf r → 0 < numberOf (inFront p r)
+unfolding inFront numberOf
+front-some p (refused number) h = h
+front-some p (payloads ps) h = h
 
 pick-some : (wrong : Bool) (number : ℕ) (r : Reading) → (wrong ≡ true → 0 < number) → 0 < numberOf r → 0 < numberOf (if wrong then refused number else r)
 unfolding numberOf
@@ -136,16 +136,16 @@ end-some true wrong next number h f = h
 end-some false true next number h f = f refl
 end-some false false next number h f = omega arith
 
-chain-some : (left exchange flags : ℕ) (another : Bool) (type start : ℕ) (s : List ℕ) → 0 < numberOf (chain left exchange flags another type start s)
+chain-some : (left exchange flags : ℕ) (offered : Bool) (type start : ℕ) (s : List ℕ) → 0 < numberOf (chain left exchange flags offered type start s)
 unfolding chain
-chain-some zero exchange flags another type start s = unfold numberOf in omega arith
-chain-some (suc left) exchange flags another type start s =
-    let code : ℕ = payloadCode exchange another type s in
+chain-some zero exchange flags offered type start s = unfold numberOf in omega arith
+chain-some (suc left) exchange flags offered type start s =
+    let code : ℕ = payloadCode exchange offered type s in
     let n : ℕ = numberAt 2 s 2 in
     let rest : ℕ = restCode flags (drop n s) in
-    let more : Reading = chain left exchange flags (another || eqb type 1) (getD s 0 0) (start + n) (drop n s) in
-    let after = end-some (not (eqb (getD s 0 0) 0)) (not (eqb rest 0)) more rest (chain-some left exchange flags (another || eqb type 1) (getD s 0 0) (start + n) (drop n s)) (some rest) in
-    pick-some (not (eqb code 0)) code _ (some code) (first-some (record { kind = type; start = start; length = n }) _ after)
+    let more : Reading = chain left exchange flags (offered || eqb type 1) (getD s 0 0) (start + n) (drop n s) in
+    let after = end-some (not (eqb (getD s 0 0) 0)) (not (eqb rest 0)) more rest (chain-some left exchange flags (offered || eqb type 1) (getD s 0 0) (start + n) (drop n s)) (some rest) in
+    pick-some (not (eqb code 0)) code _ (some code) (front-some (record { kind = type; start = start; length = n }) _ after)
 
 reading-some : (m : List ℕ) → 0 < numberOf (reading m)
 unfolding reading
@@ -163,8 +163,8 @@ module _ (own : Own) (state : State) (id : ℕ) (m : List ℕ) where
       let shaped = passed (eqb (shape count m) 0) 16 _ (λ z. omega arith) (same .1) in
       ltb-false 2048 (length m) (passed (ltb 2048 (length m)) 30 _ (λ z. omega arith) (shaped .1) .0)
 
-  read-fits : (exchange : ℕ) (r : Reading) → 0 < numberOf r → readCode own state id m (counted exchange 0 r) ≡ 0 → length m ≤ 2048
-  unfolding readCode counted numberOf
+  read-fits : (exchange : ℕ) (r : Reading) → 0 < numberOf r → readCode own state id m (exchangeAndCount exchange 0 r) ≡ 0 → length m ≤ 2048
+  unfolding readCode exchangeAndCount numberOf
   read-fits exchange (refused number) h e = absurd (omega arith)
   read-fits exchange (payloads ps) h e = quick-fits exchange (0 + length ps) e
 
@@ -275,18 +275,18 @@ module _ (e : End) (m sent got output : List ℕ) where
     one-other h r er = rw (← es, ← el, h, er)
 
     pub one-answered : not long ≡ false → (book body : List ℕ) (c : Choice) → book ≡ take (e .own .booksize) (e .own .book) → body ≡ bodyAt 1 m → c ≡ chooseFrom 32 book body →
-        (r : Stepped) (x y z : List ℕ) → answered e m sent got output c ≡ record { step = r; sent = x; got = y; output = z } → atResponder e m sent got output Idle ≡ record { step = r; sent = x; got = y; output = z }
+        (r : Stepped) (x y z : List ℕ) → afterChoice e m sent got output c ≡ record { step = r; sent = x; got = y; output = z } → atResponder e m sent got output Idle ≡ record { step = r; sent = x; got = y; output = z }
     unfolding atResponder bookOf
     one-answered h book body c ek eb ec r x y z ea = rw (← es, ← el, h, ← ek, ← eb, ← ec) ea
 
   module _ (c : Choice) (r : Stepped) where
-    pub choice-refused : (number : ℕ) → c ≡ choices.Refused number → r ≡ record { end = e; answer = Refused number } → answered e m sent got output c ≡ record { step = r; sent = sent; got = got; output = output }
-    unfolding answered
+    pub choice-refused : (number : ℕ) → c ≡ choices.Refused number → r ≡ record { end = e; answer = Refused number } → afterChoice e m sent got output c ≡ record { step = r; sent = sent; got = got; output = output }
+    unfolding afterChoice
     choice-refused number h er = rw (h, er)
 
     pub choice-made : (number : ProposalNumber) (line : LineNumber) (transforms : Transforms) → c ≡ choices.Chosen number line transforms → (x y z : List ℕ) →
-        halfway e m sent got output number transforms (setNumbered number (bodyAt 1 m)) ≡ record { step = r; sent = x; got = y; output = z } → answered e m sent got output c ≡ record { step = r; sent = x; got = y; output = z }
-    unfolding answered
+        halfway e m sent got output number transforms (setNumbered number (bodyAt 1 m)) ≡ record { step = r; sent = x; got = y; output = z } → afterChoice e m sent got output c ≡ record { step = r; sent = x; got = y; output = z }
+    unfolding afterChoice
     choice-made number line transforms h x y z eh = rw h eh
 
   module _ (state : State) (r : Stepped) (c : List ℕ) where

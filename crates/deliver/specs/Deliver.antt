@@ -27,11 +27,6 @@ use Rattle.ends.specs.declared.End.{End}
 use Rattle.steps.specs.declared.StepAnswer.the-variants.{Send, Refused}
 use Rattle.steps.specs.declared.Stepped.{Stepped}
 
--- sending the kept message again: the answer and the output
-unfoldable pub repeated : End → List ℕ → List ℕ → Stepped × List ℕ
-repeated end sent output =
-    (record { end = end; answer = Send (min (end .progress .sentsize) 2048) }, paste output 0 (kept (end .progress .sentsize) sent))
-
 -- "8192, 23, 8196, reading, .."; holds is what the caller says of the hash
 unfoldable pub deliveryCode : End → Bool → List ℕ → Bool → ℕ
 deliveryCode end holds m isSmall =
@@ -39,6 +34,11 @@ deliveryCode end holds m isSmall =
     else if not holds then 23
     else if isGivenUp (end .progress .state) then 8196
     else readCode (end .own) (end .progress .state) (end .progress .id) m (message m)
+
+-- sending the kept message again: the answer and the output
+unfoldable pub repeated : End → List ℕ → List ℕ → Stepped × List ℕ
+repeated end sent output =
+    (record { end = end; answer = Send (min (end .progress .sentsize) 2048) }, paste output 0 (kept (end .progress .sentsize) sent))
 
 -- the identities of a message, to be repeated: its payloads 3 and 4, no bytes where it has none
 unfoldable pub identityAt : ℕ → List ℕ → List ℕ
@@ -93,16 +93,16 @@ module _ (end : End) (m sent got output : List ℕ) where
       })
       (paste got 0 m)
 
-  unfoldable pub answered : Choice → After
-  answered (choices.Refused number) = refusing end sent got output number
-  answered (choices.Chosen number line transforms) = halfway number transforms (setNumbered number (bodyAt 1 m))
+  unfoldable pub afterChoice : Choice → After
+  afterChoice (choices.Refused number) = refusing end sent got output number
+  afterChoice (choices.Chosen number line transforms) = halfway number transforms (setNumbered number (bodyAt 1 m))
 
   -- "Responder Idle, message 1: .. Half: an equal message 1 brings message 2 again; message 3 brings Open. Open: either brings nothing. All
   -- else 8195"
   unfoldable pub atResponder : State → After
   atResponder Idle =
       if not (isLonger (shapeOf m)) then refusing end sent got output 8195
-      else answered (chooseFrom 32 (bookOf (end .own)) (bodyAt 1 m))
+      else afterChoice (chooseFrom 32 (bookOf (end .own)) (bodyAt 1 m))
   atResponder Half =
       if alike m keptGot then repeating end sent got output (end .progress)
       else if eqb (shapeOf m) 1 then nothing end sent got output (withState Open (end .progress))

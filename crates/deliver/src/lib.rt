@@ -49,7 +49,7 @@ ghost use Rattle.shapes.specs.Shapes.{shapeOf};
 ghost use Rattle.agreed.specs.Agreed.{spisOf, ownSpis};
 ghost use Rattle.ends.specs.Fresh.{isGivenUp};
 ghost use Rattle.steps.specs.Steps.{After};
-ghost use Rattle.deliver.specs.Deliver.{opened, repeated, atInitiator, identityAt, halfway, answered, atResponder, delivered};
+ghost use Rattle.deliver.specs.Deliver.{opened, repeated, atInitiator, identityAt, halfway, afterChoice, atResponder, delivered};
 
 // The checks before the reading: 0, or the refusal.
 fn early_code(state: State, holds: bool, tight: bool) -> u16
@@ -247,7 +247,7 @@ fn be_half(
 }
 
 // Message 1 and the choice from its offer.
-fn answer_choice(
+fn after_choice(
     end: End,
     m: &[u8],
     found: u8,
@@ -257,7 +257,7 @@ fn answer_choice(
     output: &mut [u8],
 ) -> Stepped
     requires { ⌜ (length (now m) ≤ 2048) × (found ≡ shapeOf (now m)) ⌝ }
-    ensures { λ r. ⌜ answered end (now (m .entry)) (now (sent .entry)) (now (got .entry)) (now (output .entry)) choice ≡ record { step = r; sent = now (sent .exit); got = now (got .exit); output = now (output .exit) } ⌝ }
+    ensures { λ r. ⌜ afterChoice end (now (m .entry)) (now (sent .entry)) (now (got .entry)) (now (output .entry)) choice ≡ record { step = r; sent = now (sent .exit); got = now (got .exit); output = now (output .exit) } ⌝ }
 {
     match choice {
         Choice::Refused(number) => refuse(end, number),
@@ -285,7 +285,7 @@ fn answer_one(
     let own = end.own;
     let book = front(&own.book, own.booksize as usize);
     let choice = choose_from(32, book, body_at(1, m));
-    answer_choice(end, m, found, choice, sent, got, output)
+    after_choice(end, m, found, choice, sent, got, output)
 }
 
 // A message at a Half responder: message 1 again, or message 3.

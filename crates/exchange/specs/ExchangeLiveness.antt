@@ -22,7 +22,7 @@ use Rattle.checks.specs.Checks.{readCode}
 use Rattle.taken.specs.Taken.{takenCode}
 use Rattle.steps.specs.Steps.{After, nothing, repeating, withState}
 use Rattle.tick.specs.Tick.{oneMore}
-use Rattle.deliver.specs.Deliver.{opened, atInitiator, halfway, answered, atResponder}
+use Rattle.deliver.specs.Deliver.{opened, atInitiator, halfway, afterChoice, atResponder}
 use Rattle.shapes.proofs.Laws.{alike-same, alike-sym, alike-trans, alike-says}
 use Rattle.ends.specs.declared.State.{State}
 use Rattle.ends.specs.declared.State.the-variants.{Idle, Sent, Half, Open, GivenUp}
@@ -116,7 +116,7 @@ longer-is first = by-test (eqb (length first) 0) (λ e. rw e) (λ e. rw e)
 
 module _ (p : Party) (m output : List ℕ) where
   at-idle : stateOf p ≡ Idle → isLonger (shapeOf m) ≡ true → (s : Suits (p .end .own) m) → atResponder (p .end) m (p .sent) (p .got) output (stateOf p) ≡ answers-with p m output s
-  unfolding atResponder answered
+  unfolding atResponder afterChoice
   at-idle q long s = rw (q, long, s .chosen)
 
   at-half-again : stateOf p ≡ Half → alike m (gotOf p) ≡ true → atResponder (p .end) m (p .sent) (p .got) output (stateOf p) ≡ repeating (p .end) (p .sent) (p .got) output (p .end .progress)

@@ -13,7 +13,7 @@ use Rattle.put.specs.Put.{paste}
 use Rattle.wire.specs.Tests.{if_then_else_}
 use Rattle.wire.proofs.Tests.{never, clash, both, neither, by-test, passed}
 use Rattle.put.proofs.Laws.{paste-inside}
-use Rattle.identity.specs.Identity.{identity}
+use Rattle.identity.specs.Identity.{identityCode}
 use Rattle.sets.specs.Sets.{setNumbered}
 use Rattle.policy.specs.Choice.{bodyAt, chooseFrom}
 use Rattle.policy.specs.declared.Choice.{Choice}
@@ -27,7 +27,7 @@ use Rattle.taken.specs.Taken.{takenCode}
 use Rattle.steps.specs.Steps.{After, small, kept, refusing, nothing, repeating, sending, withState}
 use Rattle.tick.specs.Tick.{isOpen, tickCode, oneMore, ticked}
 use Rattle.begin.specs.Begin.{identitiesWrong, beginCode, begun}
-use Rattle.deliver.specs.Deliver.{deliveryCode, opened, atInitiator, halfway, answered, atResponder, delivered}
+use Rattle.deliver.specs.Deliver.{deliveryCode, opened, atInitiator, halfway, afterChoice, atResponder, delivered}
 use Rattle.ends.specs.declared.Role.{Role}
 use Rattle.ends.specs.declared.Role.the-variants.{Initiator, Responder}
 use Rattle.ends.specs.declared.State.{State}
@@ -148,8 +148,8 @@ identities-right first second h =
     by-test (eqb (length first) 0 && eqb (length second) 0)
     (λ e. let z = both (eqb (length first) 0) (eqb (length second) 0) e in inl (nil-of first (eqb-true _ _ (z .0)), nil-of second (eqb-true _ _ (z .1))))
     (λ e.
-    let k : (eqb (identity 32 first) 0 && eqb (identity 32 second) 0) ≡ true = rw e at (not-false (eqb (length first) 0 && eqb (length second) 0 || eqb (identity 32 first) 0 && eqb (identity 32 second) 0) h) in
-    let z = both (eqb (identity 32 first) 0) (eqb (identity 32 second) 0) k in inr (eqb-true _ _ (z .0), eqb-true _ _ (z .1)))
+    let k : (eqb (identityCode 32 first) 0 && eqb (identityCode 32 second) 0) ≡ true = rw e at (not-false (eqb (length first) 0 && eqb (length second) 0 || eqb (identityCode 32 first) 0 && eqb (identityCode 32 second) 0) h) in
+    let z = both (eqb (identityCode 32 first) 0) (eqb (identityCode 32 second) 0) k in inr (eqb-true _ _ (z .0), eqb-true _ _ (z .1)))
 
 -- a begin that passes its checks
 pub record Begins (p : Party) (id : ℕ) (first second output : List ℕ) : Type 0 where
@@ -302,8 +302,8 @@ module _ (p : Party) (other : List (List ℕ)) where
   -- ---- at the responder
 
   answers-it : (m output : List ℕ) → FullSize p output → stateOf p ≡ Idle → Heard m other → (c : Choice) → chooseFrom 32 (bookOf (p .end .own)) (bodyAt 1 m) ≡ c →
-      MoveR p other (answered (p .end) m (p .sent) (p .got) output c)
-  unfolding answered
+      MoveR p other (afterChoice (p .end) m (p .sent) (p .got) output c)
+  unfolding afterChoice
   answers-it m output room q h (choices.Refused number) e = MoveR.refuses output number
   answers-it m output room q h (choices.Chosen number line transforms) e = MoveR.answers m output (record { number = number; line = line; transforms = transforms; chosen = e }) room q h
 

@@ -17,13 +17,13 @@ use Rattle.wire.specs.Tests.{if_then_else_}
 use Rattle.wire.proofs.Tests.{clash, both, by-test}
 use Rattle.wire.proofs.Laws.{number-agree, number-past, number-drop, number-take, number-append, allZero-true}
 use Rattle.put.proofs.Laws.{number-bytesOf, length-bytesOf, length-head, length-headed, headed-lies}
-use Rattle.identity.specs.Identity.{quickData, lawful, identity}
+use Rattle.identity.specs.Identity.{quickData, lawful, identityCode}
 use Rattle.offer.specs.Proposals.{proposalsCode}
 use Rattle.offer.specs.Proposals as proposals
 use Rattle.offer.proofs.Written.{offer-right}
-use Rattle.header.specs.Header.{exchangeOf, flagsOf, firstPayload, lengthWrong, majorWrong, minorWrong, exchangeRefused, exchangeUnknown, flagsWrong, cookieWrong, messageIdWrong, padWrong, noPayload, headerCode}
+use Rattle.header.specs.Header.{exchangeOf, flagsOf, firstPayload, lengthWrong, majorWrong, minorWrong, exchangeRefused, exchangeUnknown, flagsWrong, cookieWrong, messageIdWrong, flaggedLengthWrong, noPayload, headerCode}
 use Rattle.message.specs.Payloads.{typeWrong, lengthOut, hashCode, nonceCode, bodyCode, bodyOf, payloadCode, restCode}
-use Rattle.message.specs.Message.{Reading, refused, payloads, first, chain, reading, counted, message, walk, payloadAt}
+use Rattle.message.specs.Message.{Reading, refused, payloads, inFront, chain, reading, exchangeAndCount, message, walk, payloadAt}
 use Rattle.message.specs.declared.Payload.{Payload}
 use Rattle.message.specs.declared.Message.the-variants.{Read}
 use Rattle.policy.specs.Choice.{bodyAt}
@@ -69,34 +69,34 @@ front-is : (s : List ℕ) (next : ℕ) (body rest : List ℕ) → s ≡ headed n
 front-is s next body rest e short = rw e (front-of next body rest short)
 
 -- one payload more is counted
-counted-first : (exchange count : ℕ) (p : Payload) (r : Reading) → counted exchange count (first p r) ≡ counted exchange (count + 1) r
-unfolding counted first
+counted-first : (exchange count : ℕ) (p : Payload) (r : Reading) → exchangeAndCount exchange count (inFront p r) ≡ exchangeAndCount exchange (count + 1) r
+unfolding exchangeAndCount inFront
 counted-first exchange count p (refused number) = refl
 counted-first exchange count p (payloads ps) = ap (λ (n : ℕ). Read exchange n) (omega arith)
 
 -- a payload of this type may come, and its body is not refused
-record Right (exchange : ℕ) (another : Bool) (type : ℕ) (body : List ℕ) : Type 0 where
+record Right (exchange : ℕ) (offered : Bool) (type : ℕ) (body : List ℕ) : Type 0 where
   known : typeWrong exchange type ≡ false
-  passes : bodyCode exchange another type body ≡ 0
+  passes : bodyCode exchange offered type body ≡ 0
 
-module _ {exchange : ℕ} {another : Bool} {type : ℕ} {s : List ℕ} {next : ℕ} {body rest : List ℕ} (f : Front s next body rest) (r : Right exchange another type body) where
+module _ {exchange : ℕ} {offered : Bool} {type : ℕ} {s : List ℕ} {next : ℕ} {body rest : List ℕ} (f : Front s next body rest) (r : Right exchange offered type body) where
   -- such a payload at the front passes, and the chain goes on behind it
-  payload-passes : payloadCode exchange another type s ≡ 0
+  payload-passes : payloadCode exchange offered type s ≡ 0
   unfolding payloadCode lengthOut bodyOf
   payload-passes =
       let w : 4 + length body ≤ length s = f .within in
       rw (r .known, le-ltb (length s) 4 (omega (arith, w)), f .reserved, f .lies, le-ltb (4 + length body) 4 (omega arith), le-ltb (length s) (4 + length body) w, f .its-body) (r .passes)
 
   chain-on : (left start count : ℕ) → (next ≡ 0 → ⊥) →
-      counted exchange count (chain (suc left) exchange 1 another type start s) ≡ counted exchange (count + 1) (chain left exchange 1 (another || eqb type 1) next (start + (4 + length body)) rest)
+      exchangeAndCount exchange count (chain (suc left) exchange 1 offered type start s) ≡ exchangeAndCount exchange (count + 1) (chain left exchange 1 (offered || eqb type 1) next (start + (4 + length body)) rest)
   unfolding chain
   chain-on left start count some =
       rw (payload-passes, f .next-field, ne-eqb next 0 some, f .lies, f .behind)
-      (counted-first exchange count _ (chain left exchange 1 (another || eqb type 1) next (start + (4 + length body)) rest))
+      (counted-first exchange count _ (chain left exchange 1 (offered || eqb type 1) next (start + (4 + length body)) rest))
 
   -- "After the last: .. with flag 1 a rest over 15 bytes is 30, a nonzero byte in it 16"
-  chain-last : (left start count : ℕ) → next ≡ 0 → restCode 1 rest ≡ 0 → counted exchange count (chain (suc left) exchange 1 another type start s) ≡ Read exchange (count + 1)
-  unfolding chain first counted
+  chain-last : (left start count : ℕ) → next ≡ 0 → restCode 1 rest ≡ 0 → exchangeAndCount exchange count (chain (suc left) exchange 1 offered type start s) ≡ Read exchange (count + 1)
+  unfolding chain inFront exchangeAndCount
   chain-last left start count e passes = rw (payload-passes, f .next-field, e, f .lies, f .behind, passes)
 
 abbrev pub zeros : ℕ → List ℕ
@@ -216,7 +216,7 @@ module _ {own : Own} {id : ℕ} {m s : List ℕ} (f : Frame own id m s) where
   head-size = number-of 4 24 (28 + length s) m (the-head .its-size) (omega (arith, f .short))
 
   header-passes : headerCode m ≡ 0
-  unfolding headerCode lengthWrong majorWrong minorWrong exchangeRefused exchangeUnknown flagsWrong cookieWrong messageIdWrong padWrong noPayload
+  unfolding headerCode lengthWrong majorWrong minorWrong exchangeRefused exchangeUnknown flagsWrong cookieWrong messageIdWrong flaggedLengthWrong noPayload
   header-passes =
       let first-cookie : allZero (bytesOf 8 (own .icookie)) ≡ false = cookie-some 8 (own .icookie) (f .fit .icookie .0) (omega (arith, f .fit .icookie .1)) in
       let second-cookie : allZero (bytesOf 8 (own .rcookie)) ≡ false = cookie-some 8 (own .rcookie) (f .fit .rcookie .0) (omega (arith, f .fit .rcookie .1)) in
@@ -243,7 +243,7 @@ module _ {own : Own} {id : ℕ} {m s : List ℕ} (f : Frame own id m s) where
   head-framed : Framed own id m
   head-framed = record { short = omega (arith, the-head .long, f .short); flag = the-head .flag; icookie = head-icookie; rcookie = head-rcookie; its-id = head-id }
 
-  head-reads : message m ≡ counted 32 0 (chain 32 32 1 false 8 28 s)
+  head-reads : message m ≡ exchangeAndCount 32 0 (chain 32 32 1 false 8 28 s)
   unfolding message reading
   head-reads = rw (header-passes, the-head .exchange, the-head .flag, the-head .kind, the-head .behind)
 
@@ -442,7 +442,7 @@ nonce-right : (nonce : List ℕ) → 8 ≤ length nonce → length nonce ≤ 256
 unfolding typeWrong bodyCode nonceCode
 nonce-right nonce low high = record { known = refl; passes = rw (le-leb 8 (length nonce) low, le-leb (length nonce) 256 high) }
 
-identity-right : (body : List ℕ) → identity 32 body ≡ 0 → Right 32 true 5 body
+identity-right : (body : List ℕ) → identityCode 32 body ≡ 0 → Right 32 true 5 body
 unfolding typeWrong bodyCode
 identity-right body h = record { known = refl; passes = h }
 
@@ -461,8 +461,8 @@ lawful-held : (test : Bool) (number : ℕ) → 0 < number → (if test then 0 el
 lawful-held true number some h = refl
 lawful-held false number some h = absurd (omega arith)
 
-identity-size : (body : List ℕ) → identity 32 body ≡ 0 → (4 ≤ length body) × (length body ≤ 36)
-unfolding identity lawful
+identity-size : (body : List ℕ) → identityCode 32 body ≡ 0 → (4 ≤ length body) × (length body ≤ 36)
+unfolding identityCode lawful
 identity-size body h =
     let b = both (leb 4 (length body)) _ (lawful-held _ 18 (omega arith) h) in
     (leb-true 4 (length body) (b .0), omega (arith, quick-few (getD body 0 0) (drop 4 body) (b .1), length-drop 4 body))
@@ -538,7 +538,7 @@ module _ {own : Own} {id : ℕ} {ps : List ℕ} {next : ℕ} {tail m : List ℕ}
   abbrev place-behind : ℕ
   place-behind = place + (4 + length nonce)
 
-  nonce-next : message m ≡ counted 32 2 (chain 30 32 1 true 10 place (headed next nonce ++ rest))
+  nonce-next : message m ≡ exchangeAndCount 32 2 (chain 30 32 1 true 10 place (headed next nonce ++ rest))
   nonce-next =
       head-reads frame ∙ chain-on front-hash (hash-right bytes (p .its .thirty-two)) 31 28 0 (λ e. omega arith)
       ∙ chain-on front-sa (sa-right ps (p .ps-read)) 30 (28 + (4 + length bytes)) 1 (λ e. omega arith)
@@ -567,7 +567,7 @@ module _ {own : Own} {id : ℕ} {ps : List ℕ} {next : ℕ} {tail m : List ℕ}
   is-three = shape-three m (lies-kind (head-lies frame)) (lies-kind lies-sa) (lies-kind lies-nonce)
 
   -- "8-1-10-5-5"
-  module _ (one two : List ℕ) (five : next ≡ 5) (goes : tail ≡ headed 5 one ++ headed 0 two) (right-one : identity 32 one ≡ 0) (right-two : identity 32 two ≡ 0) where
+  module _ (one two : List ℕ) (five : next ≡ 5) (goes : tail ≡ headed 5 one ++ headed 0 two) (right-one : identityCode 32 one ≡ 0) (right-two : identityCode 32 two ≡ 0) where
     abbrev last : List ℕ
     last = headed 0 two ++ zeros (p .its .pad)
 
@@ -583,7 +583,7 @@ module _ {own : Own} {id : ℕ} {ps : List ℕ} {next : ℕ} {tail m : List ℕ}
     five-read : message m ≡ Read 32 5
     five-read =
         nonce-next ∙ chain-on front-nonce right-nonce 29 place 2 (λ e. omega arith)
-        ∙ ap (λ (type : ℕ). counted 32 3 (chain 29 32 1 true type place-behind rest)) five
+        ∙ ap (λ (type : ℕ). exchangeAndCount 32 3 (chain 29 32 1 true type place-behind rest)) five
         ∙ chain-on front-one (identity-right one right-one) 28 place-behind 3 (λ e. omega arith)
         ∙ chain-last front-two (identity-right two right-two) 27 (place-behind + (4 + length one)) 4 refl (rest-passes (p .its .pad) (p .its .few))
 

@@ -9,7 +9,7 @@ use lib.Dec.{eqb}
 use Rattle.wire.specs.Wire.{numberAt}
 use Rattle.put.specs.Put.{bytesOf}
 use Rattle.wire.specs.Tests.{if_then_else_}
-use Rattle.identity.specs.Identity.{identity}
+use Rattle.identity.specs.Identity.{identityCode}
 use Rattle.header.specs.Header.{flagsOf}
 use Rattle.message.specs.Message.{message}
 use Rattle.message.specs.declared.Message.the-variants.{Read}
@@ -37,7 +37,7 @@ pub record Fit (own : Own) : Type 0 where
 
 -- "no or two identity bodies"
 abbrev pub Identities : List ℕ → List ℕ → Type 0
-Identities first second = ((first ≡ []) × (second ≡ [])) ⊎ ((identity 32 first ≡ 0) × (identity 32 second ≡ 0))
+Identities first second = ((first ≡ []) × (second ≡ [])) ⊎ ((identityCode 32 first ≡ 0) × (identityCode 32 second ≡ 0))
 
 -- how many payloads a message of the longer shape has
 unfoldable pub payloadsWith : List ℕ → ℕ

@@ -15,7 +15,7 @@ use Rattle.wire.specs.Tests.{if_then_else_}
 use Rattle.wire.proofs.Tests.{by-test}
 use Rattle.wire.proofs.Laws.{number-append, number-append-add}
 use Rattle.put.proofs.Laws.{number-bytesOf, length-bytesOf, length-headed, headed-lies}
-use Rattle.attribute.specs.Attributes.{sentFixed, attributeType, attributeSize, outOfBounds, find, attribute, mustBeFixed, fixedWrong, isDuration, durationWrong, attributeCode, attributesCode, attributesLawful}
+use Rattle.attribute.specs.Attributes.{sentFixed, attributeType, attributeSize, outOfBounds, find, attribute, mustBeFixed, fixedWrong, isDuration, durationWrong, attributeCode, attributesFrom, attributesCode}
 use Rattle.offer.specs.Proposals.{has, with, setBefore, orderWrong, protocolWrong, proposalCode, proposalsCode}
 use Rattle.offer.specs.Proposals as proposals
 use Rattle.offer.proofs.Laws.{Item, Rising, end, on, LawfulTransform}
@@ -36,16 +36,16 @@ use Rattle.ends.specs.declared.Own.{Own}
 
 -- "the suiting attributes with the line's seconds, sent fixed, in the order 4, 5 where there is one, 1, 2"
 module _ (mode high low : ℕ) where
-  four-lawful : attributesLawful 32 (0x80 ∷ 4 ∷ 0 ∷ mode ∷ 0x80 ∷ 5 ∷ 0 ∷ 20 ∷ 0x80 ∷ 1 ∷ 0 ∷ 1 ∷ 0x80 ∷ 2 ∷ high ∷ low ∷ []) ≡ 0
-  unfolding sentFixed attributeType attributeSize outOfBounds find attribute mustBeFixed fixedWrong isDuration durationWrong attributeCode attributesCode attributesLawful numberAt
+  four-lawful : attributesCode 32 (0x80 ∷ 4 ∷ 0 ∷ mode ∷ 0x80 ∷ 5 ∷ 0 ∷ 20 ∷ 0x80 ∷ 1 ∷ 0 ∷ 1 ∷ 0x80 ∷ 2 ∷ high ∷ low ∷ []) ≡ 0
+  unfolding sentFixed attributeType attributeSize outOfBounds find attribute mustBeFixed fixedWrong isDuration durationWrong attributeCode attributesFrom attributesCode numberAt
   four-lawful = refl
 
-  three-lawful : attributesLawful 32 (0x80 ∷ 4 ∷ 0 ∷ mode ∷ 0x80 ∷ 1 ∷ 0 ∷ 1 ∷ 0x80 ∷ 2 ∷ high ∷ low ∷ []) ≡ 0
-  unfolding sentFixed attributeType attributeSize outOfBounds find attribute mustBeFixed fixedWrong isDuration durationWrong attributeCode attributesCode attributesLawful numberAt
+  three-lawful : attributesCode 32 (0x80 ∷ 4 ∷ 0 ∷ mode ∷ 0x80 ∷ 1 ∷ 0 ∷ 1 ∷ 0x80 ∷ 2 ∷ high ∷ low ∷ []) ≡ 0
+  unfolding sentFixed attributeType attributeSize outOfBounds find attribute mustBeFixed fixedWrong isDuration durationWrong attributeCode attributesFrom attributesCode numberAt
   three-lawful = refl
 
 module _ (protocol i : ℕ) (book : List ℕ) where
-  attributes-right : (attributesLawful 32 (attributes protocol i book) ≡ 0) × (length (attributes protocol i book) ≤ 16)
+  attributes-right : (attributesCode 32 (attributes protocol i book) ≡ 0) × (length (attributes protocol i book) ≤ 16)
   unfolding attributes integrity fixed bytesOf
   attributes-right =
       let seconds : ℕ = quickSeconds i book in
@@ -72,7 +72,7 @@ module _ (id : ℕ) (list : List ℕ) where
   unfolding headed head bytesOf
   behind = refl
 
-  lawful-transform : attributesLawful 32 list ≡ 0 → length list ≤ 16 → LawfulTransform 32 the-transform
+  lawful-transform : attributesCode 32 list ≡ 0 → length list ≤ 16 → LawfulTransform 32 the-transform
   lawful-transform lawful short = record { long = omega (arith, transform-length); lies = lies short; reserved = reserved .0; also-reserved = reserved .1; attributes = rw behind lawful }
 
 -- ---- a proposal of one transform
@@ -90,7 +90,7 @@ module _ (next number protocol id : ℕ) (spi list : List ℕ) where
   unfolding proposalOf fields head headed bytesOf
   is-proposed = refl
 
-  written-single : (next ≡ 0) ⊎ (next ≡ 2) → protocolWrong 32 protocol ≡ false → Keyed 32 spi → length spi ≡ 4 → attributesLawful 32 list ≡ 0 → length list ≤ 16 →
+  written-single : (next ≡ 0) ⊎ (next ≡ 2) → protocolWrong 32 protocol ≡ false → Keyed 32 spi → length spi ≡ 4 → attributesCode 32 list ≡ 0 → length list ≤ 16 →
       Single next number protocol (proposalOf next number protocol spi (the-transform id list))
   written-single follows known key four lawful short =
       let few : length (spi ++ the-transform id list) ≤ 28 = omega (arith, length-append spi (the-transform id list), transform-length id list) in

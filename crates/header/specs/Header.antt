@@ -49,8 +49,8 @@ unfoldable pub messageIdWrong : List ℕ → Bool
 messageIdWrong m = eqb (exchangeOf m) 2 && not (eqb (numberAt 4 m 20) 0) || eqb (exchangeOf m) 32 && eqb (numberAt 4 m 20) 0
 
 -- "Flag 1 and length minus 28 no multiple of 16"
-unfoldable pub padWrong : List ℕ → Bool
-padWrong m = eqb (flagsOf m) 1 && not (eqb (length (drop 28 m) % 16) 0)
+unfoldable pub flaggedLengthWrong : List ℕ → Bool
+flaggedLengthWrong m = eqb (flagsOf m) 1 && not (eqb (length (drop 28 m) % 16) 0)
 
 -- "No first payload"
 unfoldable pub noPayload : List ℕ → Bool
@@ -67,6 +67,6 @@ headerCode m =
     else if flagsWrong m then 8
     else if cookieWrong m then 4
     else if messageIdWrong m then 9
-    else if padWrong m then 30
+    else if flaggedLengthWrong m then 30
     else if noPayload m then 16
     else 0

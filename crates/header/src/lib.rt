@@ -5,7 +5,7 @@ use wire::be32;
 use wire::byte;
 use wire::front;
 ghost use mathlib.Core.Path.{_≡_};
-ghost use Rattle.header.specs.Header.{lengthWrong, majorWrong, minorWrong, exchangeRefused, exchangeUnknown, flagsWrong, cookieWrong, messageIdWrong, padWrong, noPayload, headerCode};
+ghost use Rattle.header.specs.Header.{lengthWrong, majorWrong, minorWrong, exchangeRefused, exchangeUnknown, flagsWrong, cookieWrong, messageIdWrong, flaggedLengthWrong, noPayload, headerCode};
 
 fn length_wrong(m: &[u8]) -> bool
     ensures { λ r. ⌜ r ≡ lengthWrong (now (m .entry)) ⌝ }
@@ -60,8 +60,8 @@ fn message_id_wrong(m: &[u8]) -> bool
     (exchange == 2) & (id != 0) | (exchange == 32) & (id == 0)
 }
 
-fn pad_wrong(m: &[u8]) -> bool
-    ensures { λ r. ⌜ r ≡ padWrong (now (m .entry)) ⌝ }
+fn flagged_length_wrong(m: &[u8]) -> bool
+    ensures { λ r. ⌜ r ≡ flaggedLengthWrong (now (m .entry)) ⌝ }
 {
     (byte(m, 19) == 1) & (after(m, 28).len() % 16 != 0)
 }
@@ -100,7 +100,7 @@ pub fn header_code(m: &[u8]) -> u16
     if message_id_wrong(m) {
         return 9;
     }
-    if pad_wrong(m) {
+    if flagged_length_wrong(m) {
         return 30;
     }
     if no_payload(m) { 16 } else { 0 }

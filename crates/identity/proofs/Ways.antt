@@ -6,7 +6,7 @@ use mathlib.Core.Bool.{Bool, true, false, _&&_}
 use lib.ListN.{length, getD, drop}
 use lib.Dec.{leb}
 use borrow.Author.Tests.{ne-eqb}
-use Rattle.identity.specs.Identity.{mainData, quickData, portZero, lawful, identity}
+use Rattle.identity.specs.Identity.{mainData, quickData, portZero, lawful, identityCode}
 
 module _ (type : ℕ) (s : List ℕ) (n1 : type ≡ 1 → ⊥) (n5 : type ≡ 5 → ⊥) where
   pub no-main : (type ≡ 2 → ⊥) → (type ≡ 3 → ⊥) → (type ≡ 11 → ⊥) → (type ≡ 9 → ⊥) → (type ≡ 10 → ⊥) → false ≡ mainData type s
@@ -34,10 +34,10 @@ module _ (exchange : ℕ) (s : List ℕ) where
   lawful-none n2 n32 = rw (ne-eqb exchange 2 n2, ne-eqb exchange 32 n32)
 
   module _ (l : Bool) (el : l ≡ lawful exchange s) where
-    pub identity-done : (leb 4 (length s) && l) ≡ true → 0 ≡ identity exchange s
-    unfolding identity
+    pub identity-done : (leb 4 (length s) && l) ≡ true → 0 ≡ identityCode exchange s
+    unfolding identityCode
     identity-done h = rw (← el, h)
 
-    pub identity-wrong : (leb 4 (length s) && l) ≡ false → 18 ≡ identity exchange s
-    unfolding identity
+    pub identity-wrong : (leb 4 (length s) && l) ≡ false → 18 ≡ identityCode exchange s
+    unfolding identityCode
     identity-wrong h = rw (← el, h)

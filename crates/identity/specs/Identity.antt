@@ -45,5 +45,5 @@ lawful exchange s =
     else false
 
 -- "fewer: 18 .. Else 18": 0, or the refusal
-unfoldable pub identity : ℕ → List ℕ → ℕ
-identity exchange s = if leb 4 (length s) && lawful exchange s then 0 else 18
+unfoldable pub identityCode : ℕ → List ℕ → ℕ
+identityCode exchange s = if leb 4 (length s) && lawful exchange s then 0 else 18

@@ -5,7 +5,7 @@ use wire::after;
 use wire::be16;
 use wire::byte;
 ghost use mathlib.Core.Path.{_≡_};
-ghost use Rattle.identity.specs.Identity.{oneTo255, mainData, quickData, portZero, lawful, identity};
+ghost use Rattle.identity.specs.Identity.{oneTo255, mainData, quickData, portZero, lawful, identityCode};
 
 fn one_to_255(n: usize) -> bool
     ensures { λ r. ⌜ r ≡ oneTo255 n ⌝ }
@@ -61,8 +61,8 @@ fn lawful(exchange: u8, s: &[u8]) -> bool
 }
 
 // 0 where the body is a lawful identity in the exchange, else 18.
-pub fn check(exchange: u8, s: &[u8]) -> u16
-    ensures { λ r. ⌜ r ≡ identity exchange (now (s .entry)) ⌝ }
+pub fn identity_code(exchange: u8, s: &[u8]) -> u16
+    ensures { λ r. ⌜ r ≡ identityCode exchange (now (s .entry)) ⌝ }
 {
     if (4 <= s.len()) & lawful(exchange, s) {
         0

@@ -18,7 +18,7 @@ use Rattle.offer.specs.Proposals.{offerCode}
 use Rattle.header.specs.Header.{exchangeOf, flagsOf, firstPayload, headerCode}
 use Rattle.header.proofs.Laws.{header-long}
 use Rattle.message.specs.Payloads.{typeWrong, lengthOut, bodyCode, bodyOf, payloadCode, restCode}
-use Rattle.message.specs.Message.{Reading, refused, payloads, first, chain, reading, counted, message, walk}
+use Rattle.message.specs.Message.{Reading, refused, payloads, inFront, chain, reading, exchangeAndCount, message, walk}
 use Rattle.message.specs.declared.Payload.{Payload}
 use Rattle.message.specs.declared.Message.the-variants.{Read}
 
@@ -39,25 +39,25 @@ walk-start (suc k) type start m = walk-start k (getD m start 0) (start + numberA
 -- ---- one payload
 
 -- a payload that is not refused ends within its message, and its body is not refused
-payload-body : (exchange : ℕ) (another : Bool) (type : ℕ) (s : List ℕ) → payloadCode exchange another type s ≡ 0 → (numberAt 2 s 2 ≤ length s) × (bodyCode exchange another type (bodyOf s) ≡ 0)
+payload-body : (exchange : ℕ) (offered : Bool) (type : ℕ) (s : List ℕ) → payloadCode exchange offered type s ≡ 0 → (numberAt 2 s 2 ≤ length s) × (bodyCode exchange offered type (bodyOf s) ≡ 0)
 unfolding payloadCode lengthOut
-payload-body exchange another type s h =
+payload-body exchange offered type s h =
     let allowed = passed (typeWrong exchange type) 1 _ (λ z. omega arith) h in
     let long = passed (ltb (length s) 4) 16 _ (λ z. omega arith) (allowed .1) in
     let reserved = passed (not (eqb (getD s 1 0) 0)) 16 _ (λ z. omega arith) (long .1) in
     let bounds = passed (lengthOut s) 30 _ (λ z. omega arith) (reserved .1) in
     (ltb-false (length s) (numberAt 2 s 2) (neither (ltb (numberAt 2 s 2) 4) (ltb (length s) (numberAt 2 s 2)) (bounds .0) .1), bounds .1)
 
-payload-within : (exchange : ℕ) (another : Bool) (type : ℕ) (s : List ℕ) → payloadCode exchange another type s ≡ 0 → numberAt 2 s 2 ≤ length s
-payload-within exchange another type s h = payload-body exchange another type s h .0
+payload-within : (exchange : ℕ) (offered : Bool) (type : ℕ) (s : List ℕ) → payloadCode exchange offered type s ≡ 0 → numberAt 2 s 2 ≤ length s
+payload-within exchange offered type s h = payload-body exchange offered type s h .0
 
 -- "a second SA payload is 15 unread": one that is not refused reads
-offer-body : (exchange : ℕ) (another : Bool) (type : ℕ) (body : List ℕ) → type ≡ 1 → bodyCode exchange another type body ≡ 0 → offerCode exchange body ≡ 0
+offer-body : (exchange : ℕ) (offered : Bool) (type : ℕ) (body : List ℕ) → type ≡ 1 → bodyCode exchange offered type body ≡ 0 → offerCode exchange body ≡ 0
 unfolding bodyCode
-offer-body exchange another type body e h = passed another 15 (offerCode exchange body) (λ z. omega arith) (rw e at h) .1
+offer-body exchange offered type body e h = passed offered 15 (offerCode exchange body) (λ z. omega arith) (rw e at h) .1
 
-payload-offer : (exchange : ℕ) (another : Bool) (type : ℕ) (s : List ℕ) → payloadCode exchange another type s ≡ 0 → type ≡ 1 → offerCode exchange (bodyOf s) ≡ 0
-payload-offer exchange another type s h e = offer-body exchange another type (bodyOf s) e (payload-body exchange another type s h .1)
+payload-offer : (exchange : ℕ) (offered : Bool) (type : ℕ) (s : List ℕ) → payloadCode exchange offered type s ≡ 0 → type ≡ 1 → offerCode exchange (bodyOf s) ≡ 0
+payload-offer exchange offered type s h e = offer-body exchange offered type (bodyOf s) e (payload-body exchange offered type s h .1)
 
 -- ---- the chain: of left payloads at most, the first of this type at start
 
@@ -69,8 +69,8 @@ pub record Found (exchange left : ℕ) (m : List ℕ) (type start : ℕ) (ps : L
   pub few : length ps ≤ left
 
 -- what follows the first payload was found too
-first-found : (p : Payload) (r : Reading) (ps : List Payload) → first p r ≡ payloads ps → (qs : List Payload) × (r ≡ payloads qs) × (ps ≡ p ∷ qs)
-unfolding first
+first-found : (p : Payload) (r : Reading) (ps : List Payload) → inFront p r ≡ payloads ps → (qs : List Payload) × (r ≡ payloads qs) × (ps ≡ p ∷ qs)
+unfolding inFront
 first-found p (refused number) ps e = never (cc)
 first-found p (payloads qs) ps e = (qs, refl, cc)
 
@@ -128,39 +128,39 @@ by-end true wrong next number qs e f g = f e
 by-end false true next number qs e f g = nothing number qs e
 by-end false false next number qs e f g = g (sym (same e))
 
-module _ (left exchange flags : ℕ) (m : List ℕ) (again : (another : Bool) (type start : ℕ) (qs : List Payload) → start ≤ length m → chain left exchange flags another type start (drop start m) ≡ payloads qs → Found exchange left m type start qs) (another : Bool) (type start : ℕ) (h : start ≤ length m) (fine : payloadCode exchange another type (drop start m) ≡ 0) where
+module _ (left exchange flags : ℕ) (m : List ℕ) (again : (offered : Bool) (type start : ℕ) (qs : List Payload) → start ≤ length m → chain left exchange flags offered type start (drop start m) ≡ payloads qs → Found exchange left m type start qs) (offered : Bool) (type start : ℕ) (h : start ≤ length m) (fine : payloadCode exchange offered type (drop start m) ≡ 0) where
   fits : numberAt 2 (drop start m) 2 ≤ length (drop start m)
-  fits = payload-within exchange another type (drop start m) fine
+  fits = payload-within exchange offered type (drop start m) fine
 
   next-found : (qs : List Payload) →
       (if not (eqb (getD (drop start m) 0 0) 0)
-      then chain left exchange flags (another || eqb type 1) (getD (drop start m) 0 0) (start + numberAt 2 (drop start m) 2) (drop (numberAt 2 (drop start m) 2) (drop start m))
+      then chain left exchange flags (offered || eqb type 1) (getD (drop start m) 0 0) (start + numberAt 2 (drop start m) 2) (drop (numberAt 2 (drop start m) 2) (drop start m))
       else if not (eqb (restCode flags (drop (numberAt 2 (drop start m) 2) (drop start m))) 0) then refused (restCode flags (drop (numberAt 2 (drop start m) 2) (drop start m)))
       else payloads []) ≡ payloads qs → Found exchange left m (getD (drop start m) 0 0) (start + numberAt 2 (drop start m) 2) qs
   next-found qs e =
       by-end (not (eqb (getD (drop start m) 0 0) 0)) (not (eqb (restCode flags (drop (numberAt 2 (drop start m) 2) (drop start m))) 0))
-      (chain left exchange flags (another || eqb type 1) (getD (drop start m) 0 0) (start + numberAt 2 (drop start m) 2) (drop (numberAt 2 (drop start m) 2) (drop start m)))
+      (chain left exchange flags (offered || eqb type 1) (getD (drop start m) 0 0) (start + numberAt 2 (drop start m) 2) (drop (numberAt 2 (drop start m) 2) (drop start m)))
       (restCode flags (drop (numberAt 2 (drop start m) 2) (drop start m))) qs e
-      (λ v. again (another || eqb type 1) (getD (drop start m) 0 0) (start + numberAt 2 (drop start m) 2) qs (omega (arith, fits, length-drop start m)) (rw drop-drop at v))
+      (λ v. again (offered || eqb type 1) (getD (drop start m) 0 0) (start + numberAt 2 (drop start m) 2) qs (omega (arith, fits, length-drop start m)) (rw drop-drop at v))
       (λ none. rw none (none-found exchange left m (getD (drop start m) 0 0) (start + numberAt 2 (drop start m) 2)))
 
 cons-some : (ps : List Payload) (p : Payload) (qs : List Payload) → ps ≡ p ∷ qs → 0 < length ps
 cons-some ps p qs e = rw e (omega arith)
 
 -- a chain that is not refused found its payloads, and one at least
-found : (left exchange flags : ℕ) (another : Bool) (type start : ℕ) (m : List ℕ) (ps : List Payload) → start ≤ length m →
-    chain left exchange flags another type start (drop start m) ≡ payloads ps → Found exchange left m type start ps × (0 < length ps)
+found : (left exchange flags : ℕ) (offered : Bool) (type start : ℕ) (m : List ℕ) (ps : List Payload) → start ≤ length m →
+    chain left exchange flags offered type start (drop start m) ≡ payloads ps → Found exchange left m type start ps × (0 < length ps)
 unfolding chain
-found zero exchange flags another type start m ps h e = never (cc)
-found (suc left) exchange flags another type start m ps h e =
+found zero exchange flags offered type start m ps h e = never (cc)
+found (suc left) exchange flags offered type start m ps h e =
     by-pick _ _ _ _ e
     (λ w v. nothing _ ps v)
     (λ w v.
-    let code = payloadCode exchange another type (drop start m) in
+    let code = payloadCode exchange offered type (drop start m) in
     let fine = eqb-true code 0 (not-false (eqb code 0) w) in
     let (qs, eq, ep) = first-found _ _ ps v in
-    let after = next-found left exchange flags m (λ a t i rs g f. found left exchange flags a t i m rs g f .0) another type start h fine qs eq in
-    (rw ep (more-found exchange left m type start qs h (payload-within exchange another type (drop start m) fine) (payload-offer exchange another type (drop start m) fine) after), cons-some ps _ qs ep))
+    let after = next-found left exchange flags m (λ a t i rs g f. found left exchange flags a t i m rs g f .0) offered type start h fine qs eq in
+    (rw ep (more-found exchange left m type start qs h (payload-within exchange offered type (drop start m) fine) (payload-offer exchange offered type (drop start m) fine) after), cons-some ps _ qs ep))
 
 pub reading-header : (m : List ℕ) (ps : List Payload) → reading m ≡ payloads ps → headerCode m ≡ 0
 unfolding reading
@@ -182,8 +182,8 @@ pub record ReadAs (m : List ℕ) (exchange count : ℕ) : Type 0 where
   pub same-exchange : exchangeOf m ≡ exchange
   pub same-count : length found ≡ count
 
-read-of : (m : List ℕ) (exchange count : ℕ) (r : Reading) → reading m ≡ r → counted (exchangeOf m) 0 r ≡ Read exchange count → ReadAs m exchange count
-unfolding counted
+read-of : (m : List ℕ) (exchange count : ℕ) (r : Reading) → reading m ≡ r → exchangeAndCount (exchangeOf m) 0 r ≡ Read exchange count → ReadAs m exchange count
+unfolding exchangeAndCount
 read-of m exchange count (refused number) e f = never (cc)
 read-of m exchange count (payloads ps) e f =
     let same : 0 + length ps ≡ count = cc in
@@ -210,8 +210,8 @@ body-whole : (p : List ℕ) → numberAt 2 p 2 ≡ length p → bodyOf p ≡ dro
 unfolding bodyOf
 body-whole p lies = rw lies (ap (drop 4) (take-length p))
 
-one-chain : (left exchange : ℕ) (s : List ℕ) → payloadCode exchange false 1 s ≡ 0 → getD s 0 0 ≡ 0 → numberAt 2 s 2 ≡ length s → (start : ℕ) → counted exchange 0 (chain (suc left) exchange 0 false 1 start s) ≡ Read exchange 1
-unfolding chain first counted restCode
+one-chain : (left exchange : ℕ) (s : List ℕ) → payloadCode exchange false 1 s ≡ 0 → getD s 0 0 ≡ 0 → numberAt 2 s 2 ≡ length s → (start : ℕ) → exchangeAndCount exchange 0 (chain (suc left) exchange 0 false 1 start s) ≡ Read exchange 1
+unfolding chain inFront exchangeAndCount restCode
 one-chain left exchange s fine last lies start = rw (fine, last, lies, drop-length s)
 
 -- a header, and behind it one SA payload whose body reads

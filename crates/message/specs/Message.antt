@@ -20,18 +20,18 @@ pub data Reading : Type 0 where
   payloads : List Payload → Reading
 
 -- a payload, and then what is found behind it
-unfoldable pub first : Payload → Reading → Reading
-first p (refused number) = refused number
-first p (payloads ps) = payloads (p ∷ ps)
+unfoldable pub inFront : Payload → Reading → Reading
+inFront p (refused number) = refused number
+inFront p (payloads ps) = payloads (p ∷ ps)
 
--- each payload in its turn, "a 33rd: 16": left may come, this one is of that type, another is whether an SA payload came before, and s is
+-- each payload in its turn, "a 33rd: 16": left may come, this one is of that type, offered is whether an SA payload came before, and s is
 -- what follows from start on
 unfoldable pub chain : ℕ → ℕ → ℕ → Bool → ℕ → ℕ → List ℕ → Reading
-chain zero exchange flags another type start s = refused 16
-chain (suc left) exchange flags another type start s =
-    if not (eqb (payloadCode exchange another type s) 0) then refused (payloadCode exchange another type s)
-    else first (record { kind = type; start = start; length = numberAt 2 s 2 })
-    (if not (eqb (getD s 0 0) 0) then chain left exchange flags (another || eqb type 1) (getD s 0 0) (start + numberAt 2 s 2) (drop (numberAt 2 s 2) s)
+chain zero exchange flags offered type start s = refused 16
+chain (suc left) exchange flags offered type start s =
+    if not (eqb (payloadCode exchange offered type s) 0) then refused (payloadCode exchange offered type s)
+    else inFront (record { kind = type; start = start; length = numberAt 2 s 2 })
+    (if not (eqb (getD s 0 0) 0) then chain left exchange flags (offered || eqb type 1) (getD s 0 0) (start + numberAt 2 s 2) (drop (numberAt 2 s 2) s)
     else if not (eqb (restCode flags (drop (numberAt 2 s 2) s)) 0) then refused (restCode flags (drop (numberAt 2 s 2) s))
     else payloads [])
 
@@ -41,12 +41,12 @@ reading m =
     else chain 32 (exchangeOf m) (flagsOf m) false (firstPayload m) 28 (drop 28 m)
 
 -- what is answered: exchange, and how many payloads; so many were found before this part of the chain, none before the whole
-unfoldable pub counted : ℕ → ℕ → Reading → Message
-counted exchange before (refused number) = Refused number
-counted exchange before (payloads ps) = Read exchange (before + length ps)
+unfoldable pub exchangeAndCount : ℕ → ℕ → Reading → Message
+exchangeAndCount exchange before (refused number) = Refused number
+exchangeAndCount exchange before (payloads ps) = Read exchange (before + length ps)
 
 unfoldable pub message : List ℕ → Message
-message m = counted (exchangeOf m) 0 (reading m)
+message m = exchangeAndCount (exchangeOf m) 0 (reading m)
 
 -- payload k from the one of this type at start on: its type stands in the one before it, its length in its bytes 2 and 3
 unfoldable pub walk : ℕ → ℕ → ℕ → List ℕ → Payload

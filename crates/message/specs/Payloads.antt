@@ -6,7 +6,7 @@ use lib.ListN.{length, getD, take, drop}
 use lib.Dec.{ltb, leb, eqb}
 use Rattle.wire.specs.Wire.{numberAt, allZero}
 use Rattle.wire.specs.Tests.{if_then_else_}
-use Rattle.identity.specs.Identity.{identity}
+use Rattle.identity.specs.Identity.{identityCode}
 use Rattle.offer.specs.Proposals.{offerCode}
 
 -- "Allowed are 1, 4 to 13, 20, 21, 128; with exchange 5 not 1 or 5"
@@ -33,11 +33,11 @@ certificateCode body =
     else if eqb (getD body 0 0) 4 || eqb (getD body 0 0) 5 then 0
     else 19
 
--- "Identity and SA below; a second SA payload is 15 unread. Others are opaque."; another is whether an SA payload came before
+-- "Identity and SA below; a second SA payload is 15 unread. Others are opaque."; offered is whether an SA payload came before
 unfoldable pub bodyCode : ℕ → Bool → ℕ → List ℕ → ℕ
-bodyCode exchange another type body =
-    if eqb type 1 then (if another then 15 else offerCode exchange body)
-    else if eqb type 5 then identity exchange body
+bodyCode exchange offered type body =
+    if eqb type 1 then (if offered then 15 else offerCode exchange body)
+    else if eqb type 5 then identityCode exchange body
     else if eqb type 6 then certificateCode body
     else if eqb type 8 then hashCode body
     else if eqb type 10 then nonceCode body
@@ -49,12 +49,12 @@ bodyOf s = drop 4 (take (numberAt 2 s 2) s)
 
 -- "type: 1; fewer than 4 bytes left: 16; reserved byte nonzero: 16; length under 4 or past the end: 30; then its body"
 unfoldable pub payloadCode : ℕ → Bool → ℕ → List ℕ → ℕ
-payloadCode exchange another type s =
+payloadCode exchange offered type s =
     if typeWrong exchange type then 1
     else if ltb (length s) 4 then 16
     else if not (eqb (getD s 1 0) 0) then 16
     else if lengthOut s then 30
-    else bodyCode exchange another type (bodyOf s)
+    else bodyCode exchange offered type (bodyOf s)
 
 -- "After the last: with flag 0 any rest is 30; with flag 1 a rest over 15 bytes is 30, a nonzero byte in it 16"
 unfoldable pub restCode : ℕ → List ℕ → ℕ

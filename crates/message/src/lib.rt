@@ -9,7 +9,7 @@ use wire::be16;
 use wire::byte;
 ghost use mathlib.Core.Path.{_≡_};
 ghost use Prim.Native.Nat.{_-_, _≤_};
-ghost use Rattle.message.specs.Message.{chain, counted, message, payloadAt};
+ghost use Rattle.message.specs.Message.{chain, exchangeAndCount, message, payloadAt};
 
 // What a message is read as.
 pub enum Message {
@@ -24,16 +24,16 @@ pub struct Payload {
     pub length: usize,
 }
 
-// The payloads from here on, of which so many may come. The first is of that type; another says whether an SA payload came
+// The payloads from here on, of which so many may come. The first is of that type; offered says whether an SA payload came
 // before.
-fn chain(left: u8, exchange: u8, flags: u8, another: bool, kind: u8, s: &[u8]) -> Message
+fn chain(left: u8, exchange: u8, flags: u8, offered: bool, kind: u8, s: &[u8]) -> Message
     requires { ⌜ left ≤ 32 ⌝ }
-    ensures { λ r. ⌜ r ≡ counted exchange (32 - left) (chain left exchange flags another kind 0 (now (s .entry))) ⌝ }
+    ensures { λ r. ⌜ r ≡ exchangeAndCount exchange (32 - left) (chain left exchange flags offered kind 0 (now (s .entry))) ⌝ }
 {
     if left == 0 {
         return Message::Refused(16);
     }
-    let code = payload_code(exchange, another, kind, s);
+    let code = payload_code(exchange, offered, kind, s);
     if code != 0 {
         return Message::Refused(code);
     }
@@ -41,7 +41,7 @@ fn chain(left: u8, exchange: u8, flags: u8, another: bool, kind: u8, s: &[u8]) -
     let n = be16(s, 2) as usize;
     let rest = after(s, n);
     if next != 0 {
-        return chain(left - 1, exchange, flags, another | (kind == 1), next, rest);
+        return chain(left - 1, exchange, flags, offered | (kind == 1), next, rest);
     }
     let code = rest_code(flags, rest);
     if code != 0 {

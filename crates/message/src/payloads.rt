@@ -1,4 +1,6 @@
 // One payload, its body, and what may follow the last. A slice begins at the payload.
+use identity::identity_code;
+use offer::offer_code;
 use wire::after;
 use wire::all_zero;
 use wire::be16;
@@ -51,18 +53,18 @@ fn certificate_code(body: &[u8]) -> u16
     }
 }
 
-fn body_code(exchange: u8, another: bool, kind: u8, body: &[u8]) -> u16
-    ensures { λ r. ⌜ r ≡ bodyCode exchange another kind (now (body .entry)) ⌝ }
+fn body_code(exchange: u8, offered: bool, kind: u8, body: &[u8]) -> u16
+    ensures { λ r. ⌜ r ≡ bodyCode exchange offered kind (now (body .entry)) ⌝ }
 {
     match kind {
         1 => {
-            if another {
+            if offered {
                 15
             } else {
-                offer::check(exchange, body)
+                offer_code(exchange, body)
             }
         }
-        5 => identity::check(exchange, body),
+        5 => identity_code(exchange, body),
         6 => certificate_code(body),
         8 => hash_code(body),
         10 => nonce_code(body),
@@ -77,9 +79,9 @@ pub fn body_of(s: &[u8]) -> &[u8]
     after(front(s, be16(s, 2) as usize), 4)
 }
 
-// 0 where the payload is lawful, else the refusal; another says whether an SA payload came before.
-pub(crate) fn payload_code(exchange: u8, another: bool, kind: u8, s: &[u8]) -> u16
-    ensures { λ r. ⌜ r ≡ payloadCode exchange another kind (now (s .entry)) ⌝ }
+// 0 where the payload is lawful, else the refusal; offered says whether an SA payload came before.
+pub(crate) fn payload_code(exchange: u8, offered: bool, kind: u8, s: &[u8]) -> u16
+    ensures { λ r. ⌜ r ≡ payloadCode exchange offered kind (now (s .entry)) ⌝ }
 {
     if type_wrong(exchange, kind) {
         return 1;
@@ -93,7 +95,7 @@ pub(crate) fn payload_code(exchange: u8, another: bool, kind: u8, s: &[u8]) -> u
     if length_out(s) {
         return 30;
     }
-    body_code(exchange, another, kind, body_of(s))
+    body_code(exchange, offered, kind, body_of(s))
 }
 
 // What follows the last payload: nothing, or with flag 1 up to 15 zero bytes.

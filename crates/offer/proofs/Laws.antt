@@ -11,7 +11,7 @@ use borrow.Author.Tests.{ltb-false, leb-true, eqb-true, eqb-false, not-false}
 use Rattle.wire.specs.Wire.{numberAt}
 use Rattle.wire.proofs.Tests.{neither, both, by-test, passed}
 use Rattle.wire.proofs.Laws.{number-take}
-use Rattle.attribute.specs.Attributes.{attributesLawful}
+use Rattle.attribute.specs.Attributes.{attributesCode}
 use Rattle.transforms.specs.Transforms.{nextWanted, transformWrong, transformCode, transformsCode}
 use Rattle.offer.specs.Proposals.{proposalWrong, has, setBefore, none, orderWrong, protocolWrong, spiWrong, countWrong, transformBytes, innerCode, proposalCode, proposalsCode, offerCode}
 use Rattle.offer.specs.declared.Protocols.{Protocols}
@@ -162,7 +162,7 @@ pub record LawfulTransform (exchange : ℕ) (t : List ℕ) : Type 0 where
   pub lies : numberAt 2 t 2 ≡ length t
   pub reserved : getD t 1 0 ≡ 0
   pub also-reserved : numberAt 2 t 6 ≡ 0
-  pub attributes : attributesLawful exchange (drop 8 t) ≡ 0
+  pub attributes : attributesCode exchange (drop 8 t) ≡ 0
 
 -- what the checks on its first bytes leave
 record Fits (s : List ℕ) : Type 0 where

@@ -151,7 +151,7 @@ fn proposals_code(left: u8, exchange: u8, previous: u8, set: Protocols, s: &[u8]
 }
 
 // 0 where the body of an SA payload is lawful in the exchange, else the refusal.
-pub fn check(exchange: u8, s: &[u8]) -> u16
+pub fn offer_code(exchange: u8, s: &[u8]) -> u16
     ensures { λ r. ⌜ r ≡ offerCode exchange (now (s .entry)) ⌝ }
 {
     if s.len() < 8 {

@@ -50,16 +50,16 @@ use Rattle.port4500.proofs.read.Kinds as port4500-read-kinds
 use Rattle.port4500.proofs.read.Reads as port4500-read-reads
 use Rattle.port4500.proofs.handed_on.Kinds as port4500-handed-on-kinds
 use Rattle.port4500.proofs.handed_on.Reads as port4500-handed-on-reads
-use Rattle.identity.proofs.check.Kinds as identity-check-kinds
-use Rattle.identity.proofs.check.Reads as identity-check-reads
+use Rattle.identity.proofs.identity_code.Kinds as identity-identity-code-kinds
+use Rattle.identity.proofs.identity_code.Reads as identity-identity-code-reads
 use Rattle.attribute.proofs.sent_fixed.Kinds as attribute-sent-fixed-kinds
 use Rattle.attribute.proofs.sent_fixed.Reads as attribute-sent-fixed-reads
 use Rattle.attribute.proofs.attribute_type.Kinds as attribute-attribute-type-kinds
 use Rattle.attribute.proofs.attribute_type.Reads as attribute-attribute-type-reads
 use Rattle.attribute.proofs.attribute.Kinds as attribute-attribute-kinds
 use Rattle.attribute.proofs.attribute.Reads as attribute-attribute-reads
-use Rattle.attribute.proofs.attributes_lawful.Kinds as attribute-attributes-lawful-kinds
-use Rattle.attribute.proofs.attributes_lawful.Reads as attribute-attributes-lawful-reads
+use Rattle.attribute.proofs.attributes_code.Kinds as attribute-attributes-code-kinds
+use Rattle.attribute.proofs.attributes_code.Reads as attribute-attributes-code-reads
 use Rattle.attribute.proofs.value.Kinds as attribute-value-kinds
 use Rattle.attribute.proofs.value.Reads as attribute-value-reads
 use Rattle.sets.proofs.set.Kinds as sets-set-kinds
@@ -94,8 +94,8 @@ use Rattle.offer.proofs.transform_bytes.Kinds as offer-transform-bytes-kinds
 use Rattle.offer.proofs.transform_bytes.Reads as offer-transform-bytes-reads
 use Rattle.transforms.proofs.transforms_code.Kinds as transforms-transforms-code-kinds
 use Rattle.transforms.proofs.transforms_code.Reads as transforms-transforms-code-reads
-use Rattle.offer.proofs.check.Kinds as offer-check-kinds
-use Rattle.offer.proofs.check.Reads as offer-check-reads
+use Rattle.offer.proofs.offer_code.Kinds as offer-offer-code-kinds
+use Rattle.offer.proofs.offer_code.Reads as offer-offer-code-reads
 use Rattle.header.proofs.header_code.Kinds as header-header-code-kinds
 use Rattle.header.proofs.header_code.Reads as header-header-code-reads
 use Rattle.message.proofs.read.Kinds as message-read-kinds
@@ -296,8 +296,8 @@ port4500-read κs arguments x y s t p q = p ∙ sym q
 pub port4500-handed-on : OneAnswer 1 port4500-handed-on-kinds.ps port4500-handed-on-kinds.r (λ κs x s. now x) port4500-handed-on-reads.Post
 port4500-handed-on κs arguments x y s t p q = p ∙ sym q
 
-pub identity-check : OneAnswer 1 identity-check-kinds.ps identity-check-kinds.r (λ κs x s. x) identity-check-reads.Post
-identity-check κs arguments x y s t p q = p ∙ sym q
+pub identity-identity-code : OneAnswer 1 identity-identity-code-kinds.ps identity-identity-code-kinds.r (λ κs x s. x) identity-identity-code-reads.Post
+identity-identity-code κs arguments x y s t p q = p ∙ sym q
 
 pub attribute-sent-fixed : OneAnswer 1 attribute-sent-fixed-kinds.ps attribute-sent-fixed-kinds.r (λ κs x s. x) attribute-sent-fixed-reads.Post
 attribute-sent-fixed κs arguments x y s t p q = p ∙ sym q
@@ -308,8 +308,8 @@ attribute-attribute-type κs arguments x y s t p q = p ∙ sym q
 pub attribute-attribute : OneAnswer 1 attribute-attribute-kinds.ps attribute-attribute-kinds.r (λ κs x s. now x) attribute-attribute-reads.Post
 attribute-attribute κs arguments x y s t p q = p ∙ sym q
 
-pub attribute-attributes-lawful : OneAnswer 1 attribute-attributes-lawful-kinds.ps attribute-attributes-lawful-kinds.r (λ κs x s. x) attribute-attributes-lawful-reads.Post
-attribute-attributes-lawful κs arguments x y s t p q = p ∙ sym q
+pub attribute-attributes-code : OneAnswer 1 attribute-attributes-code-kinds.ps attribute-attributes-code-kinds.r (λ κs x s. x) attribute-attributes-code-reads.Post
+attribute-attributes-code κs arguments x y s t p q = p ∙ sym q
 
 pub attribute-value : OneAnswer 1 attribute-value-kinds.ps attribute-value-kinds.r (λ κs x s. x) attribute-value-reads.Post
 attribute-value κs arguments x y s t p q = p ∙ sym q
@@ -362,8 +362,8 @@ offer-transform-bytes κs arguments x y s t p q = p ∙ sym q
 pub transforms-transforms-code : OneAnswer 1 transforms-transforms-code-kinds.ps transforms-transforms-code-kinds.r (λ κs x s. x) transforms-transforms-code-reads.Post
 transforms-transforms-code κs arguments x y s t p q = p ∙ sym q
 
-pub offer-check : OneAnswer 1 offer-check-kinds.ps offer-check-kinds.r (λ κs x s. x) offer-check-reads.Post
-offer-check κs arguments x y s t p q = p ∙ sym q
+pub offer-offer-code : OneAnswer 1 offer-offer-code-kinds.ps offer-offer-code-kinds.r (λ κs x s. x) offer-offer-code-reads.Post
+offer-offer-code κs arguments x y s t p q = p ∙ sym q
 
 pub header-header-code : OneAnswer 1 header-header-code-kinds.ps header-header-code-kinds.r (λ κs x s. x) header-header-code-reads.Post
 header-header-code κs arguments x y s t p q = p ∙ sym q

@@ -17,7 +17,7 @@ use Rattle.taken.specs.Taken.{takenCode}
 use Rattle.steps.specs.Steps.{After, kept, refusing, answer}
 use Rattle.begin.specs.Begin.{begun}
 use Rattle.tick.specs.Tick.{ticked}
-use Rattle.deliver.specs.Deliver.{opened, atInitiator, halfway, answered, atResponder, delivered}
+use Rattle.deliver.specs.Deliver.{opened, atInitiator, halfway, afterChoice, atResponder, delivered}
 use Rattle.ends.specs.declared.End.{End}
 use Rattle.ends.specs.declared.State.{State}
 use Rattle.ends.specs.declared.State.the-variants.{Idle, Sent, Half, Open, GivenUp}
@@ -61,14 +61,14 @@ module _ (end : End) (sent got output : List ℕ) where
     initiator-refused Half = refuses _
     initiator-refused GivenUp = refuses _
 
-    answered-refused : (choice : Choice) → Unchanged (answered end m sent got output choice)
-    unfolding answered halfway
-    answered-refused (choices.Refused number) = refuses _
-    answered-refused (choices.Chosen number line transforms) = sends _ _ refl
+    after-choice-refused : (choice : Choice) → Unchanged (afterChoice end m sent got output choice)
+    unfolding afterChoice halfway
+    after-choice-refused (choices.Refused number) = refuses _
+    after-choice-refused (choices.Chosen number line transforms) = sends _ _ refl
 
     responder-refused : (state : State) → Unchanged (atResponder end m sent got output state)
     unfolding atResponder
-    responder-refused Idle = by-test (not (isLonger (shapeOf m))) (λ e. rw e (refuses _)) (λ e. rw e (answered-refused _))
+    responder-refused Idle = by-test (not (isLonger (shapeOf m))) (λ e. rw e (refuses _)) (λ e. rw e (after-choice-refused _))
     responder-refused Half =
         by-test (alike m (kept (end .progress .gotsize) got)) (λ e. rw e (sends _ _ refl))
         (λ e. by-test (eqb (shapeOf m) 1) (λ f. rw (e, f) (quiet _ refl)) (λ f. rw (e, f) (refuses _)))

@@ -16,7 +16,7 @@ use Rattle.put.specs.Put.{bytesOf}
 use Rattle.wire.proofs.Tests.{by-test, passed}
 use Rattle.wire.proofs.Laws.{number-drop, number-take, number-append, number-append-add}
 use Rattle.put.proofs.Laws.{length-bytesOf, number-bytesOf, paste-inside, drop-paste}
-use Rattle.header.specs.Header.{exchangeOf, flagsOf, firstPayload, lengthWrong, majorWrong, minorWrong, exchangeRefused, exchangeUnknown, flagsWrong, cookieWrong, messageIdWrong, padWrong, noPayload, headerCode}
+use Rattle.header.specs.Header.{exchangeOf, flagsOf, firstPayload, lengthWrong, majorWrong, minorWrong, exchangeRefused, exchangeUnknown, flagsWrong, cookieWrong, messageIdWrong, flaggedLengthWrong, noPayload, headerCode}
 use Rattle.header.proofs.Laws as headers
 use Rattle.message.specs.Message.{message}
 use Rattle.message.specs.declared.Message.the-variants.{Read}
@@ -128,7 +128,7 @@ record Alike (m n : List ℕ) : Type 0 where
   right : lengthWrong n ≡ false
 
 alike-lawful : (m n : List ℕ) → Alike m n → headerCode m ≡ 0 → headerCode n ≡ 0
-unfolding headerCode majorWrong minorWrong exchangeRefused exchangeUnknown flagsWrong cookieWrong messageIdWrong padWrong noPayload
+unfolding headerCode majorWrong minorWrong exchangeRefused exchangeUnknown flagsWrong cookieWrong messageIdWrong flaggedLengthWrong noPayload
 alike-lawful m n a h =
     let long = passed (lengthWrong m) 30 _ (λ z. omega arith) h in
     let major = passed (majorWrong m) 5 _ (λ z. omega arith) (long .1) in

@@ -27,7 +27,7 @@ small sent got output = ltb (length sent) 2048 || ltb (length got) 2048 || ltb (
 unfoldable pub kept : ℕ → List ℕ → List ℕ
 kept size buffer = take (min size 2048) buffer
 
--- what a call changed, but in another state
+-- the record with another state and all else kept
 unfoldable pub withState : State → Progress → Progress
 withState state progress = record {
   state = state;

@@ -40,7 +40,7 @@ pub fn kept(size: u16, buffer: &[u8]) -> &[u8]
     front(buffer, kept_size(size) as usize)
 }
 
-// What a call changed, but in another state.
+// The record with another state and all else kept.
 pub fn with_state(state: State, progress: Progress) -> Progress
     ensures { λ r. ⌜ r ≡ withState state progress ⌝ }
 {

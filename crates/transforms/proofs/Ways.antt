@@ -9,7 +9,7 @@ use lib.Dec.{eqb}
 use borrow.Author.Tests.{eq-eqb, ne-eqb, lt-ltb, le-ltb}
 use Rattle.wire.specs.Wire.{numberAt}
 use Rattle.wire.specs.Tests.{if_then_else_}
-use Rattle.attribute.specs.Attributes.{attributesLawful}
+use Rattle.attribute.specs.Attributes.{attributesCode}
 use Rattle.transforms.specs.Transforms.{transformWrong, transformCode, transformsCode}
 
 module _ (exchange left least : ℕ) (s : List ℕ) (w : Bool) (ew : w ≡ transformWrong left s) where
@@ -22,7 +22,7 @@ module _ (exchange left least : ℕ) (s : List ℕ) (w : Bool) (ew : w ≡ trans
     unfolding transformCode
     transform-low h = rw (← ew, right, ← en, lt-ltb number least h)
 
-    pub transform-attributes : least ≤ number → (n r : ℕ) (whole rest : List ℕ) → n ≡ numberAt 2 s 2 → whole ≡ take n s → rest ≡ drop 8 whole → r ≡ attributesLawful exchange rest → r ≡ transformCode exchange left least s
+    pub transform-attributes : least ≤ number → (n r : ℕ) (whole rest : List ℕ) → n ≡ numberAt 2 s 2 → whole ≡ take n s → rest ≡ drop 8 whole → r ≡ attributesCode exchange rest → r ≡ transformCode exchange left least s
     unfolding transformCode
     transform-attributes h n r whole rest el et ed er = rw (← ew, right, ← en, le-ltb number least h, ← el, ← et, ← ed) er
 

@@ -7,7 +7,7 @@ use lib.ListN.{length, getD, take, drop}
 use lib.Dec.{ltb, eqb}
 use Rattle.wire.specs.Wire.{numberAt}
 use Rattle.wire.specs.Tests.{if_then_else_}
-use Rattle.attribute.specs.Attributes.{attributesLawful}
+use Rattle.attribute.specs.Attributes.{attributesCode}
 
 -- "next 0 on the last, else 3": left transforms follow this one
 unfoldable pub nextWanted : ℕ → ℕ
@@ -24,7 +24,7 @@ unfoldable pub transformCode : ℕ → ℕ → ℕ → List ℕ → ℕ
 transformCode exchange left least s =
     if transformWrong left s then 15
     else if ltb (getD s 4 0) least then 15
-    else attributesLawful exchange (drop 8 (take (numberAt 2 s 2) s))
+    else attributesCode exchange (drop 8 (take (numberAt 2 s 2) s))
 
 -- "so many transforms, nothing left over: 15"
 unfoldable pub transformsCode : ℕ → ℕ → ℕ → List ℕ → ℕ

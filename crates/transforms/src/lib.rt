@@ -1,5 +1,5 @@
 // The transforms of a proposal. A slice begins at a transform.
-use attribute::attributes_lawful;
+use attribute::attributes_code;
 use wire::after;
 use wire::be16;
 use wire::byte;
@@ -34,7 +34,7 @@ fn transform_code(exchange: u8, left: u8, least: u16, s: &[u8]) -> u16
     if (byte(s, 4) as u16) < least {
         return 15;
     }
-    attributes_lawful(exchange, after(front(s, be16(s, 2) as usize), 8))
+    attributes_code(exchange, after(front(s, be16(s, 2) as usize), 8))
 }
 
 // So many transforms and nothing left over, of which the first has at least this number.

@@ -16,7 +16,7 @@ body-code-spec =
     (λ c κs. search needs)
     (λ c. search body-second)
     (λ c. search body-offer)
-    (λ c. rw (c .before .match .keys2) (c .check2 .ensures))
+    (λ c. rw (c .before .match .keys2) (c .identity-code .ensures))
     (λ c. rw (c .before .match .keys3) (c .certificate-code .ensures))
     (λ c. rw (c .before .match .keys4) (c .hash-code .ensures))
     (λ c. rw (c .before .match .keys5) (c .nonce-code .ensures))

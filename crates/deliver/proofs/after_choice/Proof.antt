@@ -1,10 +1,10 @@
 use Rattle.deliver.proofs.Ways.{choice-refused, choice-made}
 use borrow.Author.Needs.{needs}
-use Rattle.deliver.proofs.answer_choice.Statement.{statement}
-use Rattle.deliver.proofs.answer_choice.Tie as tie
+use Rattle.deliver.proofs.after_choice.Statement.{statement}
+use Rattle.deliver.proofs.after_choice.Tie as tie
 
-pub answer-choice-spec : {M : Type 1} → statement M
-answer-choice-spec =
+pub after-choice-spec : {M : Type 1} → statement M
+after-choice-spec =
     tie.close
     (tie.spec
     (λ c. search needs)

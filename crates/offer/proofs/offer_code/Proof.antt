@@ -1,10 +1,10 @@
 use Rattle.offer.proofs.ProposalWays.{offer-short, offer-doi, offer-situation, offer-proposals}
 use borrow.Author.Needs.{needs}
-use Rattle.offer.proofs.check.Statement.{statement}
-use Rattle.offer.proofs.check.Tie as tie
+use Rattle.offer.proofs.offer_code.Statement.{statement}
+use Rattle.offer.proofs.offer_code.Tie as tie
 
-pub check-spec : {M : Type 1} → statement M
-check-spec =
+pub offer-code-spec : {M : Type 1} → statement M
+offer-code-spec =
     tie.close
     (tie.spec
     (λ c. search offer-short)

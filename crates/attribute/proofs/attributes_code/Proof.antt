@@ -5,20 +5,20 @@ use native.Mathlib.Omega.{arith}
 use borrow.Author.Needs.{needs}
 use denote.Ref.{now}
 use lib.ListN.{length, take, drop}
-use Rattle.attribute.specs.Attributes.{attributesCode, attributesLawful}
+use Rattle.attribute.specs.Attributes.{attributesFrom, attributesCode}
 use Rattle.attribute.proofs.Ways.{attributes-end, attributes-many, attributes-refused, attributes-within, attributes-on}
-use Rattle.attribute.proofs.attributes_lawful.Statement.{statement}
-use Rattle.attribute.proofs.attributes_lawful.Tie as tie
+use Rattle.attribute.proofs.attributes_code.Statement.{statement}
+use Rattle.attribute.proofs.attributes_code.Tie as tie
 
 abbrev Inv-loop : tie.InvT-loop
-Inv-loop exchange s left₀ at₀ left at = attributesCode left exchange (take at s) (drop at s) ≡ attributesLawful exchange s
+Inv-loop exchange s left₀ at₀ left at = attributesFrom left exchange (take at s) (drop at s) ≡ attributesCode exchange s
 
 abbrev μ-loop : tie.MeasureT-loop
 μ-loop exchange s left₀ at₀ left at = left
 
-pub attributes-lawful-spec : {M : Type 1} → statement M
-unfolding attributesLawful
-attributes-lawful-spec =
+pub attributes-code-spec : {M : Type 1} → statement M
+unfolding attributesCode
+attributes-code-spec =
     tie.close
     (tie.spec
     Inv-loop
