@@ -14,7 +14,7 @@ use Rattle.put.proofs.Laws.{put-size, put-made}
 use Rattle.wire.proofs.Laws.{take-within, drop-within}
 use Rattle.wire.proofs.Tests.{by-test, passed}
 use Rattle.header.specs.Header.{headerCode, exchangeOf, flagsOf, firstPayload}
-use Rattle.message.specs.Payloads.{payloadCode, restCode}
+use Rattle.payload.specs.Payloads.{payloadCode, restCode}
 use Rattle.message.specs.Message.{Reading, refused, payloads, inFront, chain, reading, exchangeAndCount, message, payloadAt}
 use Rattle.message.specs.declared.Payload.{Payload}
 use Rattle.message.specs.declared.Message.{Message}

@@ -22,8 +22,9 @@ use Rattle.offer.specs.Proposals.{proposalsCode}
 use Rattle.offer.specs.Proposals as proposals
 use Rattle.offer.proofs.Written.{offer-right}
 use Rattle.header.specs.Header.{exchangeOf, flagsOf, firstPayload, lengthWrong, majorWrong, minorWrong, exchangeRefused, exchangeUnknown, flagsWrong, cookieWrong, messageIdWrong, flaggedLengthWrong, noPayload, headerCode}
-use Rattle.message.specs.Payloads.{typeWrong, lengthOut, hashCode, nonceCode, bodyCode, bodyOf, payloadCode, restCode}
-use Rattle.message.specs.Message.{Reading, refused, payloads, inFront, chain, reading, exchangeAndCount, message, walk, payloadAt}
+use Rattle.payload.specs.Payloads.{typeWrong, lengthOut, hashCode, nonceCode, bodyCode, bodyOf, payloadCode, restCode}
+use Rattle.message.proofs.Laws.{count-more}
+use Rattle.message.specs.Message.{payloads, inFront, chain, reading, exchangeAndCount, message, walk, payloadAt}
 use Rattle.message.specs.declared.Payload.{Payload}
 use Rattle.message.specs.declared.Message.the-variants.{Read}
 use Rattle.policy.specs.Choice.{bodyAt}
@@ -68,12 +69,6 @@ front-of next body rest short = record {
 front-is : (s : List ℕ) (next : ℕ) (body rest : List ℕ) → s ≡ headed next body ++ rest → 4 + length body < 65536 → Front s next body rest
 front-is s next body rest e short = rw e (front-of next body rest short)
 
--- one payload more is counted
-counted-first : (exchange count : ℕ) (p : Payload) (r : Reading) → exchangeAndCount exchange count (inFront p r) ≡ exchangeAndCount exchange (count + 1) r
-unfolding exchangeAndCount inFront
-counted-first exchange count p (refused number) = refl
-counted-first exchange count p (payloads ps) = ap (λ (n : ℕ). Read exchange n) (omega arith)
-
 -- a payload of this type may come, and its body is not refused
 record Right (exchange : ℕ) (offered : Bool) (type : ℕ) (body : List ℕ) : Type 0 where
   known : typeWrong exchange type ≡ false
@@ -92,7 +87,7 @@ module _ {exchange : ℕ} {offered : Bool} {type : ℕ} {s : List ℕ} {next : �
   unfolding chain
   chain-on left start count some =
       rw (payload-passes, f .next-field, ne-eqb next 0 some, f .lies, f .behind)
-      (counted-first exchange count _ (chain left exchange 1 (offered || eqb type 1) next (start + (4 + length body)) rest))
+      (count-more exchange count _ (chain left exchange 1 (offered || eqb type 1) next (start + (4 + length body)) rest))
 
   -- "After the last: .. with flag 1 a rest over 15 bytes is 30, a nonzero byte in it 16"
   chain-last : (left start count : ℕ) → next ≡ 0 → restCode 1 rest ≡ 0 → exchangeAndCount exchange count (chain (suc left) exchange 1 offered type start s) ≡ Read exchange (count + 1)

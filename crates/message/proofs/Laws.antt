@@ -2,22 +2,23 @@
 -- And when a message of one SA payload reads.
 use Prim.Native.Nat.{ℕ, zero, suc, _+_, _≤_, _<_}
 use mathlib.Core.Path.{_≡_, refl, sym, ap}
-use mathlib.Core.List.{List, [], _∷_, _++_}
+use mathlib.Core.List.{List, [], _∷_}
 use mathlib.Core.Bool.{Bool, true, false, not, _||_}
 use native.Mathlib.Omega.{arith}
 use native.Mathlib.Nat.{add-zero}
 use lib.ListN.{length, getD, drop, length-drop}
-use lib.Seq.{getD-drop, drop-drop, drop-length, take-length, take-append-seam}
-use lib.Dec.{ltb, eqb}
-use borrow.Author.Tests.{eqb-true, ne-eqb, ltb-false, le-ltb, not-false}
+use lib.Seq.{getD-drop, drop-drop, drop-length}
+use lib.Dec.{eqb}
+use borrow.Author.Tests.{eqb-true, not-false}
 use Rattle.wire.specs.Wire.{numberAt}
 use Rattle.wire.specs.Tests.{if_then_else_}
-use Rattle.wire.proofs.Tests.{never, neither, passed}
-use Rattle.wire.proofs.Laws.{number-drop, number-append}
+use Rattle.wire.proofs.Tests.{never}
+use Rattle.wire.proofs.Laws.{number-drop}
 use Rattle.offer.specs.Proposals.{offerCode}
 use Rattle.header.specs.Header.{exchangeOf, flagsOf, firstPayload, headerCode}
 use Rattle.header.proofs.Laws.{header-long}
-use Rattle.message.specs.Payloads.{typeWrong, lengthOut, bodyCode, bodyOf, payloadCode, restCode}
+use Rattle.payload.proofs.Laws.{payload-within, payload-offer, sa-payload, body-whole}
+use Rattle.payload.specs.Payloads.{bodyOf, payloadCode, restCode}
 use Rattle.message.specs.Message.{Reading, refused, payloads, inFront, chain, reading, exchangeAndCount, message, walk}
 use Rattle.message.specs.declared.Payload.{Payload}
 use Rattle.message.specs.declared.Message.the-variants.{Read}
@@ -35,29 +36,6 @@ pub walk-start : (k type start : ℕ) (m : List ℕ) → walk (suc k) type start
 unfolding walk
 walk-start zero type start m = refl
 walk-start (suc k) type start m = walk-start k (getD m start 0) (start + numberAt 2 m (start + 2)) m
-
--- ---- one payload
-
--- a payload that is not refused ends within its message, and its body is not refused
-payload-body : (exchange : ℕ) (offered : Bool) (type : ℕ) (s : List ℕ) → payloadCode exchange offered type s ≡ 0 → (numberAt 2 s 2 ≤ length s) × (bodyCode exchange offered type (bodyOf s) ≡ 0)
-unfolding payloadCode lengthOut
-payload-body exchange offered type s h =
-    let allowed = passed (typeWrong exchange type) 1 _ (λ z. omega arith) h in
-    let long = passed (ltb (length s) 4) 16 _ (λ z. omega arith) (allowed .1) in
-    let reserved = passed (not (eqb (getD s 1 0) 0)) 16 _ (λ z. omega arith) (long .1) in
-    let bounds = passed (lengthOut s) 30 _ (λ z. omega arith) (reserved .1) in
-    (ltb-false (length s) (numberAt 2 s 2) (neither (ltb (numberAt 2 s 2) 4) (ltb (length s) (numberAt 2 s 2)) (bounds .0) .1), bounds .1)
-
-payload-within : (exchange : ℕ) (offered : Bool) (type : ℕ) (s : List ℕ) → payloadCode exchange offered type s ≡ 0 → numberAt 2 s 2 ≤ length s
-payload-within exchange offered type s h = payload-body exchange offered type s h .0
-
--- "a second SA payload is 15 unread": one that is not refused reads
-offer-body : (exchange : ℕ) (offered : Bool) (type : ℕ) (body : List ℕ) → type ≡ 1 → bodyCode exchange offered type body ≡ 0 → offerCode exchange body ≡ 0
-unfolding bodyCode
-offer-body exchange offered type body e h = passed offered 15 (offerCode exchange body) (λ z. omega arith) (rw e at h) .1
-
-payload-offer : (exchange : ℕ) (offered : Bool) (type : ℕ) (s : List ℕ) → payloadCode exchange offered type s ≡ 0 → type ≡ 1 → offerCode exchange (bodyOf s) ≡ 0
-payload-offer exchange offered type s h e = offer-body exchange offered type (bodyOf s) e (payload-body exchange offered type s h .1)
 
 -- ---- the chain: of left payloads at most, the first of this type at start
 
@@ -175,6 +153,12 @@ reading-found m ps e =
 
 -- ---- the message
 
+-- a payload counts one more
+pub count-more : (exchange n : ℕ) (p : Payload) (r : Reading) → exchangeAndCount exchange n (inFront p r) ≡ exchangeAndCount exchange (n + 1) r
+unfolding exchangeAndCount inFront
+count-more exchange n p (refused number) = refl
+count-more exchange n p (payloads ps) = ap (Read exchange) (omega arith)
+
 -- what a message that reads has been read as
 pub record ReadAs (m : List ℕ) (exchange count : ℕ) : Type 0 where
   pub found : List Payload
@@ -194,21 +178,6 @@ unfolding message
 read-as m exchange count h = read-of m exchange count (reading m) refl h
 
 -- ---- a message of one SA payload
-
--- the SA payload at the front of s passes where its body reads
-pub sa-payload : (exchange : ℕ) (s : List ℕ) → (exchange ≡ 5 → ⊥) → getD s 1 0 ≡ 0 → 4 ≤ numberAt 2 s 2 → numberAt 2 s 2 ≤ length s → offerCode exchange (bodyOf s) ≡ 0 → payloadCode exchange false 1 s ≡ 0
-unfolding payloadCode typeWrong lengthOut bodyCode
-sa-payload exchange s other reserved long within reads =
-    rw (ne-eqb exchange 5 other, le-ltb (length s) 4 (omega arith), reserved, le-ltb (numberAt 2 s 2) 4 long, le-ltb (length s) (numberAt 2 s 2) within) reads
-
--- and the body of a payload that is as long as it says, whatever follows
-pub body-front : (p rest : List ℕ) → 4 ≤ length p → numberAt 2 p 2 ≡ length p → bodyOf (p ++ rest) ≡ drop 4 p
-unfolding bodyOf
-body-front p rest long lies = rw (number-append 2 p rest 2 (omega arith), lies) (ap (drop 4) (take-append-seam p rest))
-
-body-whole : (p : List ℕ) → numberAt 2 p 2 ≡ length p → bodyOf p ≡ drop 4 p
-unfolding bodyOf
-body-whole p lies = rw lies (ap (drop 4) (take-length p))
 
 one-chain : (left exchange : ℕ) (s : List ℕ) → payloadCode exchange false 1 s ≡ 0 → getD s 0 0 ≡ 0 → numberAt 2 s 2 ≡ length s → (start : ℕ) → exchangeAndCount exchange 0 (chain (suc left) exchange 0 false 1 start s) ≡ Read exchange 1
 unfolding chain inFront exchangeAndCount restCode

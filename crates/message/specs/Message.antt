@@ -9,7 +9,7 @@ use Rattle.wire.specs.Tests.{if_then_else_}
 use Rattle.wire.specs.Answer.{Answer, done}
 use Rattle.wire.specs.Answer as Answers
 use Rattle.header.specs.Header.{exchangeOf, flagsOf, firstPayload, headerCode}
-use Rattle.message.specs.Payloads.{payloadCode, restCode}
+use Rattle.payload.specs.Payloads.{payloadCode, restCode}
 use Rattle.message.specs.declared.Payload.{Payload}
 use Rattle.message.specs.declared.Message.{Message}
 use Rattle.message.specs.declared.Message.the-variants.{Refused, Read}

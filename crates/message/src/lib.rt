@@ -1,9 +1,7 @@
 // Reading a message: its header, then its payloads one behind the other, each with its body.
-pub mod payloads;
-
 use header::header_code;
-use payloads::payload_code;
-use payloads::rest_code;
+use payload::payload_code;
+use payload::rest_code;
 use wire::after;
 use wire::be16;
 use wire::byte;

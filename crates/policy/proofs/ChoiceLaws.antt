@@ -17,7 +17,7 @@ use Rattle.items.specs.Items.{proposal}
 use Rattle.fields.specs.declared.ProposalNumber.{ProposalNumber}
 use Rattle.sets.proofs.Places.{LawfulSet, set-lawful, set-by-number}
 use Rattle.header.specs.Header.{exchangeOf, firstPayload}
-use Rattle.message.specs.Payloads.{bodyOf}
+use Rattle.payload.specs.Payloads.{bodyOf}
 use Rattle.message.specs.Message.{message, walk, payloadAt}
 use Rattle.message.specs.declared.Payload.{Payload}
 use Rattle.message.specs.declared.Message.the-variants as read

@@ -11,7 +11,7 @@ use Rattle.attribute.specs.Attributes as attributes
 use Rattle.transforms.specs.Transforms as transforms
 use Rattle.offer.specs.Proposals as proposals
 use Rattle.header.specs.Header as header
-use Rattle.message.specs.Payloads as payloads
+use Rattle.payload.specs.Payloads as payloads
 use Rattle.message.specs.Message as message
 use Rattle.promises.specs.Messages.{example, both, mainBook, quickBook}
 use Rattle.fields.specs.Fields as fields

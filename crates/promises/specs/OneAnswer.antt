@@ -98,12 +98,14 @@ use Rattle.offer.proofs.offer_code.Kinds as offer-offer-code-kinds
 use Rattle.offer.proofs.offer_code.Reads as offer-offer-code-reads
 use Rattle.header.proofs.header_code.Kinds as header-header-code-kinds
 use Rattle.header.proofs.header_code.Reads as header-header-code-reads
+use Rattle.payload.proofs.payload_code.Kinds as payload-payload-code-kinds
+use Rattle.payload.proofs.payload_code.Reads as payload-payload-code-reads
+use Rattle.payload.proofs.rest_code.Kinds as payload-rest-code-kinds
+use Rattle.payload.proofs.rest_code.Reads as payload-rest-code-reads
 use Rattle.message.proofs.read.Kinds as message-read-kinds
 use Rattle.message.proofs.read.Reads as message-read-reads
 use Rattle.message.proofs.payload_at.Kinds as message-payload-at-kinds
 use Rattle.message.proofs.payload_at.Reads as message-payload-at-reads
-use Rattle.message.proofs.payloads.body_of.Kinds as message-body-of-kinds
-use Rattle.message.proofs.payloads.body_of.Reads as message-body-of-reads
 use Rattle.booklines.proofs.book_size.Kinds as booklines-book-size-kinds
 use Rattle.booklines.proofs.book_size.Reads as booklines-book-size-reads
 use Rattle.book.proofs.book_in_front.Kinds as book-book-in-front-kinds
@@ -368,14 +370,17 @@ offer-offer-code κs arguments x y s t p q = p ∙ sym q
 pub header-header-code : OneAnswer 1 header-header-code-kinds.ps header-header-code-kinds.r (λ κs x s. x) header-header-code-reads.Post
 header-header-code κs arguments x y s t p q = p ∙ sym q
 
+pub payload-payload-code : OneAnswer 1 payload-payload-code-kinds.ps payload-payload-code-kinds.r (λ κs x s. x) payload-payload-code-reads.Post
+payload-payload-code κs arguments x y s t p q = p ∙ sym q
+
+pub payload-rest-code : OneAnswer 1 payload-rest-code-kinds.ps payload-rest-code-kinds.r (λ κs x s. x) payload-rest-code-reads.Post
+payload-rest-code κs arguments x y s t p q = p ∙ sym q
+
 pub message-read : OneAnswer 1 message-read-kinds.ps message-read-kinds.r (λ κs x s. x) message-read-reads.Post
 message-read κs arguments x y s t p q = p ∙ sym q
 
 pub message-payload-at : OneAnswer 1 message-payload-at-kinds.ps message-payload-at-kinds.r (λ κs x s. x) message-payload-at-reads.Post
 message-payload-at κs arguments x y s t p q = p ∙ sym q
-
-pub message-body-of : OneAnswer 1 message-body-of-kinds.ps message-body-of-kinds.r (λ κs x s. now x) message-body-of-reads.Post
-message-body-of κs arguments x y s t p q = p ∙ sym q
 
 pub booklines-book-size : OneAnswer 1 booklines-book-size-kinds.ps booklines-book-size-kinds.r (λ κs x s. x) booklines-book-size-reads.Post
 booklines-book-size κs arguments x y s t p q = p ∙ sym q

@@ -7,8 +7,8 @@ use borrow.Fn.PlainCycle.{Measures, is, falls, and}
 use Rattle.message.proofs.chain.Reads as chain
 use Rattle.message.proofs.chain.Kinds as chain-kinds
 use Rattle.message.proofs.+chain.Lts-chain as chain-lts
-use Rattle.message.proofs.payloads.payload_code.Reads as payload-code-reads
-use Rattle.message.proofs.payloads.rest_code.Reads as rest-code-reads
+use Rattle.payload.proofs.payload_code.Reads as payload-code-reads
+use Rattle.payload.proofs.rest_code.Reads as rest-code-reads
 use Rattle.wire.proofs.after.Reads as after-reads
 use Rattle.wire.proofs.be16.Reads as be16-reads
 use Rattle.wire.proofs.byte.Reads as byte-reads

@@ -1,7 +1,7 @@
 use borrow.Author.Tests.{eq-eqb, ne-eqb}
-use Rattle.message.specs.Payloads.{hashCode}
-use Rattle.message.proofs.payloads.hash_code.Statement.{statement}
-use Rattle.message.proofs.payloads.hash_code.Tie as tie
+use Rattle.payload.specs.Payloads.{hashCode}
+use Rattle.payload.proofs.hash_code.Statement.{statement}
+use Rattle.payload.proofs.hash_code.Tie as tie
 
 pub hash-code-spec : {M : Type 1} → statement M
 unfolding hashCode

@@ -1,7 +1,7 @@
-use Rattle.message.proofs.Ways.{certificate-empty, certificate-known, certificate-unknown}
+use Rattle.payload.proofs.Ways.{certificate-empty, certificate-known, certificate-unknown}
 use borrow.Author.Needs.{needs}
-use Rattle.message.proofs.payloads.certificate_code.Statement.{statement}
-use Rattle.message.proofs.payloads.certificate_code.Tie as tie
+use Rattle.payload.proofs.certificate_code.Statement.{statement}
+use Rattle.payload.proofs.certificate_code.Tie as tie
 
 pub certificate-code-spec : {M : Type 1} → statement M
 certificate-code-spec = tie.close (tie.spec (λ c. search certificate-empty)

@@ -1,7 +1,7 @@
-use Rattle.message.specs.Payloads.{bodyOf}
+use Rattle.payload.specs.Payloads.{bodyOf}
 use borrow.Author.Needs.{needs}
-use Rattle.message.proofs.payloads.body_of.Statement.{statement}
-use Rattle.message.proofs.payloads.body_of.Tie as tie
+use Rattle.payload.proofs.body_of.Statement.{statement}
+use Rattle.payload.proofs.body_of.Tie as tie
 
 pub body-of-spec : {M : Type 1} → statement M
 unfolding bodyOf

@@ -7,7 +7,7 @@ use wire::be16;
 use wire::byte;
 use wire::front;
 ghost use mathlib.Core.Path.{_≡_};
-ghost use Rattle.message.specs.Payloads.{typeWrong, lengthOut, hashCode, nonceCode, certificateCode, bodyCode, bodyOf, payloadCode, restCode};
+ghost use Rattle.payload.specs.Payloads.{typeWrong, lengthOut, hashCode, nonceCode, certificateCode, bodyCode, bodyOf, payloadCode, restCode};
 
 fn type_wrong(exchange: u8, kind: u8) -> bool
     ensures { λ r. ⌜ r ≡ typeWrong exchange kind ⌝ }
@@ -73,14 +73,14 @@ fn body_code(exchange: u8, offered: bool, kind: u8, body: &[u8]) -> u16
 }
 
 // The body of the payload.
-pub fn body_of(s: &[u8]) -> &[u8]
+fn body_of(s: &[u8]) -> &[u8]
     ensures { λ r. ⌜ now r ≡ bodyOf (now (s .entry)) ⌝ }
 {
     after(front(s, be16(s, 2) as usize), 4)
 }
 
 // 0 where the payload is lawful, else the refusal; offered says whether an SA payload came before.
-pub(crate) fn payload_code(exchange: u8, offered: bool, kind: u8, s: &[u8]) -> u16
+pub fn payload_code(exchange: u8, offered: bool, kind: u8, s: &[u8]) -> u16
     ensures { λ r. ⌜ r ≡ payloadCode exchange offered kind (now (s .entry)) ⌝ }
 {
     if type_wrong(exchange, kind) {
@@ -99,7 +99,7 @@ pub(crate) fn payload_code(exchange: u8, offered: bool, kind: u8, s: &[u8]) -> u
 }
 
 // What follows the last payload: nothing, or with flag 1 up to 15 zero bytes.
-pub(crate) fn rest_code(flags: u8, rest: &[u8]) -> u16
+pub fn rest_code(flags: u8, rest: &[u8]) -> u16
     ensures { λ r. ⌜ r ≡ restCode flags (now (rest .entry)) ⌝ }
 {
     if rest.len() == 0 {

@@ -1,8 +1,8 @@
-use Rattle.message.specs.Payloads.{bodyCode}
-use Rattle.message.proofs.Ways.{body-second, body-offer, body-opaque}
+use Rattle.payload.specs.Payloads.{bodyCode}
+use Rattle.payload.proofs.Ways.{body-second, body-offer, body-opaque}
 use borrow.Author.Needs.{needs}
-use Rattle.message.proofs.payloads.body_code.Statement.{statement}
-use Rattle.message.proofs.payloads.body_code.Tie as tie
+use Rattle.payload.proofs.body_code.Statement.{statement}
+use Rattle.payload.proofs.body_code.Tie as tie
 
 pub body-code-spec : {M : Type 1} → statement M
 unfolding bodyCode

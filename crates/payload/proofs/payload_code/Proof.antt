@@ -1,7 +1,7 @@
-use Rattle.message.proofs.Ways.{payload-type, payload-short, payload-reserved, payload-length, payload-body}
+use Rattle.payload.proofs.Ways.{payload-type, payload-short, payload-reserved, payload-length, payload-body}
 use borrow.Author.Needs.{needs}
-use Rattle.message.proofs.payloads.payload_code.Statement.{statement}
-use Rattle.message.proofs.payloads.payload_code.Tie as tie
+use Rattle.payload.proofs.payload_code.Statement.{statement}
+use Rattle.payload.proofs.payload_code.Tie as tie
 
 pub payload-code-spec : {M : Type 1} → statement M
 payload-code-spec =

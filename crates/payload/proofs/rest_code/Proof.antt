@@ -1,7 +1,7 @@
-use Rattle.message.proofs.Ways.{rest-none, rest-long, rest-pad, rest-nonzero}
+use Rattle.payload.proofs.Ways.{rest-none, rest-long, rest-pad, rest-nonzero}
 use borrow.Author.Needs.{needs}
-use Rattle.message.proofs.payloads.rest_code.Statement.{statement}
-use Rattle.message.proofs.payloads.rest_code.Tie as tie
+use Rattle.payload.proofs.rest_code.Statement.{statement}
+use Rattle.payload.proofs.rest_code.Tie as tie
 
 pub rest-code-spec : {M : Type 1} → statement M
 rest-code-spec = tie.close (tie.spec (λ c. search rest-none)

@@ -1,7 +1,7 @@
-use Rattle.message.specs.Payloads.{lengthOut}
+use Rattle.payload.specs.Payloads.{lengthOut}
 use borrow.Author.Needs.{needs}
-use Rattle.message.proofs.payloads.length_out.Statement.{statement}
-use Rattle.message.proofs.payloads.length_out.Tie as tie
+use Rattle.payload.proofs.length_out.Statement.{statement}
+use Rattle.payload.proofs.length_out.Tie as tie
 
 pub length-out-spec : {M : Type 1} → statement M
 unfolding lengthOut
