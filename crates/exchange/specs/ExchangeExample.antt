@@ -10,6 +10,7 @@ use Rattle.wire.specs.Wire.{numberAt, allZero, equal}
 use Rattle.put.specs.Put.{bytesOf, head, headed, paste}
 use Rattle.identity.specs.Identity as identities
 use Rattle.attribute.specs.Attributes as attributes
+use Rattle.coding.specs.Coding as coding
 use Rattle.transforms.specs.Transforms as transforms
 use Rattle.offer.specs.Proposals as proposals
 use Rattle.header.specs.Header as header
@@ -130,7 +131,7 @@ pub record Computed : Type 0 where
 pub computed : Computed
 unfolding start bookOne bookTwo firstIdentity secondIdentity nonceOne nonceTwo buffer filled messageFirst messageSecond messageThird trace after FairTrace called
     numberAt bytesOf head headed allZero equal paste
-    attributes.sentFixed attributes.attributeType attributes.attributeSize attributes.outOfBounds attributes.find attributes.attribute attributes.mustBeFixed attributes.fixedWrong attributes.isDuration attributes.durationWrong attributes.attributeCode attributes.attributesFrom attributes.attributesCode attributes.value attributes.countFrom attributes.attributeCount
+    attributes.sentFixed attributes.attributeType attributes.attributeSize coding.outOfBounds attributes.find attributes.attribute coding.mustBeFixed coding.fixedWrong coding.isDuration coding.durationWrong coding.attributeCode coding.attributesFrom coding.attributesCode attributes.value attributes.countFrom attributes.attributeCount
     transforms.nextWanted transforms.transformWrong transforms.transformCode transforms.transformsCode
     proposals.proposalWrong proposals.has proposals.with proposals.none proposals.setBefore proposals.orderWrong proposals.protocolWrong proposals.spiWrong proposals.countWrong proposals.transformBytes proposals.innerCode proposals.proposalCode proposals.proposalsCode proposals.offerCode
     header.lengthWrong header.majorWrong header.minorWrong header.exchangeRefused header.exchangeUnknown header.flagsWrong header.cookieWrong header.messageIdWrong header.flaggedLengthWrong header.noPayload header.headerCode

@@ -15,7 +15,8 @@ use Rattle.wire.specs.Tests.{if_then_else_}
 use Rattle.wire.proofs.Tests.{by-test}
 use Rattle.wire.proofs.Laws.{number-append, number-append-add}
 use Rattle.put.proofs.Laws.{number-bytesOf, length-bytesOf, length-headed, headed-lies}
-use Rattle.attribute.specs.Attributes.{sentFixed, attributeType, attributeSize, outOfBounds, find, attribute, mustBeFixed, fixedWrong, isDuration, durationWrong, attributeCode, attributesFrom, attributesCode}
+use Rattle.attribute.specs.Attributes.{sentFixed, attributeType, attributeSize, find, attribute}
+use Rattle.coding.specs.Coding.{outOfBounds, mustBeFixed, fixedWrong, isDuration, durationWrong, attributeCode, attributesFrom, attributesCode}
 use Rattle.offer.specs.Proposals.{has, with, setBefore, orderWrong, protocolWrong, proposalCode, proposalsCode}
 use Rattle.offer.specs.Proposals as proposals
 use Rattle.offer.proofs.Laws.{Item, Rising, end, on, LawfulTransform}

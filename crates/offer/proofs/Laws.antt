@@ -11,7 +11,7 @@ use borrow.Author.Tests.{ltb-false, leb-true, eqb-true, eqb-false, not-false}
 use Rattle.wire.specs.Wire.{numberAt}
 use Rattle.wire.proofs.Tests.{neither, both, by-test, passed}
 use Rattle.wire.proofs.Laws.{number-take}
-use Rattle.attribute.specs.Attributes.{attributesCode}
+use Rattle.coding.specs.Coding.{attributesCode}
 use Rattle.transforms.specs.Transforms.{nextWanted, transformWrong, transformCode, transformsCode}
 use Rattle.offer.specs.Proposals.{proposalWrong, has, setBefore, none, orderWrong, protocolWrong, spiWrong, countWrong, transformBytes, innerCode, proposalCode, proposalsCode, offerCode}
 use Rattle.offer.specs.declared.Protocols.{Protocols}

@@ -10,8 +10,9 @@ use lib.Dec.{leb, eqb}
 use borrow.Author.Tests.{eqb-true, leb-true, not-false}
 use Rattle.wire.specs.Tests.{if_then_else_}
 use Rattle.wire.proofs.Tests.{both, by-test}
-use Rattle.attribute.specs.Attributes.{attribute, mustBeFixed, isDuration, attributeCount}
-use Rattle.attribute.proofs.Laws.{wantedTimes, apart, allShort, allThere, wanted-length}
+use Rattle.attribute.specs.Attributes.{attribute, attributeCount}
+use Rattle.coding.specs.Coding.{mustBeFixed, isDuration}
+use Rattle.coding.proofs.Laws.{wantedTimes, apart, allShort, allThere, wanted-length}
 use Rattle.offer.specs.Proposals.{protocolWrong}
 use Rattle.offer.proofs.Laws.{Item, LawfulTransform}
 use Rattle.fields.specs.Fields.{protocol, transformCount, transformId, attributesOf}

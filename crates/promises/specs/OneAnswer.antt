@@ -56,10 +56,12 @@ use Rattle.attribute.proofs.sent_fixed.Kinds as attribute-sent-fixed-kinds
 use Rattle.attribute.proofs.sent_fixed.Reads as attribute-sent-fixed-reads
 use Rattle.attribute.proofs.attribute_type.Kinds as attribute-attribute-type-kinds
 use Rattle.attribute.proofs.attribute_type.Reads as attribute-attribute-type-reads
+use Rattle.attribute.proofs.attribute_size.Kinds as attribute-attribute-size-kinds
+use Rattle.attribute.proofs.attribute_size.Reads as attribute-attribute-size-reads
 use Rattle.attribute.proofs.attribute.Kinds as attribute-attribute-kinds
 use Rattle.attribute.proofs.attribute.Reads as attribute-attribute-reads
-use Rattle.attribute.proofs.attributes_code.Kinds as attribute-attributes-code-kinds
-use Rattle.attribute.proofs.attributes_code.Reads as attribute-attributes-code-reads
+use Rattle.coding.proofs.attributes_code.Kinds as coding-attributes-code-kinds
+use Rattle.coding.proofs.attributes_code.Reads as coding-attributes-code-reads
 use Rattle.attribute.proofs.value.Kinds as attribute-value-kinds
 use Rattle.attribute.proofs.value.Reads as attribute-value-reads
 use Rattle.sets.proofs.set.Kinds as sets-set-kinds
@@ -307,11 +309,14 @@ attribute-sent-fixed κs arguments x y s t p q = p ∙ sym q
 pub attribute-attribute-type : OneAnswer 1 attribute-attribute-type-kinds.ps attribute-attribute-type-kinds.r (λ κs x s. x) attribute-attribute-type-reads.Post
 attribute-attribute-type κs arguments x y s t p q = p ∙ sym q
 
+pub attribute-attribute-size : OneAnswer 1 attribute-attribute-size-kinds.ps attribute-attribute-size-kinds.r (λ κs x s. x) attribute-attribute-size-reads.Post
+attribute-attribute-size κs arguments x y s t p q = p ∙ sym q
+
 pub attribute-attribute : OneAnswer 1 attribute-attribute-kinds.ps attribute-attribute-kinds.r (λ κs x s. now x) attribute-attribute-reads.Post
 attribute-attribute κs arguments x y s t p q = p ∙ sym q
 
-pub attribute-attributes-code : OneAnswer 1 attribute-attributes-code-kinds.ps attribute-attributes-code-kinds.r (λ κs x s. x) attribute-attributes-code-reads.Post
-attribute-attributes-code κs arguments x y s t p q = p ∙ sym q
+pub coding-attributes-code : OneAnswer 1 coding-attributes-code-kinds.ps coding-attributes-code-kinds.r (λ κs x s. x) coding-attributes-code-reads.Post
+coding-attributes-code κs arguments x y s t p q = p ∙ sym q
 
 pub attribute-value : OneAnswer 1 attribute-value-kinds.ps attribute-value-kinds.r (λ κs x s. x) attribute-value-reads.Post
 attribute-value κs arguments x y s t p q = p ∙ sym q

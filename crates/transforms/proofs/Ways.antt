@@ -9,7 +9,7 @@ use lib.Dec.{eqb}
 use borrow.Author.Tests.{eq-eqb, ne-eqb, lt-ltb, le-ltb}
 use Rattle.wire.specs.Wire.{numberAt}
 use Rattle.wire.specs.Tests.{if_then_else_}
-use Rattle.attribute.specs.Attributes.{attributesCode}
+use Rattle.coding.specs.Coding.{attributesCode}
 use Rattle.transforms.specs.Transforms.{transformWrong, transformCode, transformsCode}
 
 module _ (exchange left least : ℕ) (s : List ℕ) (w : Bool) (ew : w ≡ transformWrong left s) where

@@ -7,7 +7,7 @@ use lib.ListN.{length, getD, take, drop}
 use lib.Dec.{ltb, eqb}
 use Rattle.wire.specs.Wire.{numberAt}
 use Rattle.wire.specs.Tests.{if_then_else_}
-use Rattle.attribute.specs.Attributes.{attributesCode}
+use Rattle.coding.specs.Coding.{attributesCode}
 
 -- "next 0 on the last, else 3": left transforms follow this one
 unfoldable pub nextWanted : ℕ → ℕ

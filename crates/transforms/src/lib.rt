@@ -1,5 +1,5 @@
 // The transforms of a proposal. A slice begins at a transform.
-use attribute::attributes_code;
+use coding::attributes_code;
 use wire::after;
 use wire::be16;
 use wire::byte;

@@ -1,7 +1,7 @@
-use Rattle.attribute.specs.Attributes.{durationWrong}
+use Rattle.coding.specs.Coding.{durationWrong}
 use borrow.Author.Needs.{needs}
-use Rattle.attribute.proofs.duration_wrong.Statement.{statement}
-use Rattle.attribute.proofs.duration_wrong.Tie as tie
+use Rattle.coding.proofs.duration_wrong.Statement.{statement}
+use Rattle.coding.proofs.duration_wrong.Tie as tie
 
 pub duration-wrong-spec : {M : Type 1} → statement M
 unfolding durationWrong

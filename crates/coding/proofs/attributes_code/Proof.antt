@@ -5,10 +5,10 @@ use native.Mathlib.Omega.{arith}
 use borrow.Author.Needs.{needs}
 use denote.Ref.{now}
 use lib.ListN.{length, take, drop}
-use Rattle.attribute.specs.Attributes.{attributesFrom, attributesCode}
-use Rattle.attribute.proofs.Ways.{attributes-end, attributes-many, attributes-refused, attributes-within, attributes-on}
-use Rattle.attribute.proofs.attributes_code.Statement.{statement}
-use Rattle.attribute.proofs.attributes_code.Tie as tie
+use Rattle.coding.specs.Coding.{attributesFrom, attributesCode}
+use Rattle.coding.proofs.Ways.{attributes-end, attributes-many, attributes-refused, attributes-within, attributes-on}
+use Rattle.coding.proofs.attributes_code.Statement.{statement}
+use Rattle.coding.proofs.attributes_code.Tie as tie
 
 abbrev Inv-loop : tie.InvT-loop
 Inv-loop exchange s left₀ at₀ left at = attributesFrom left exchange (take at s) (drop at s) ≡ attributesCode exchange s

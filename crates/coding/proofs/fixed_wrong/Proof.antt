@@ -1,7 +1,7 @@
-use Rattle.attribute.specs.Attributes.{fixedWrong}
+use Rattle.coding.specs.Coding.{fixedWrong}
 use borrow.Author.Needs.{needs}
-use Rattle.attribute.proofs.fixed_wrong.Statement.{statement}
-use Rattle.attribute.proofs.fixed_wrong.Tie as tie
+use Rattle.coding.proofs.fixed_wrong.Statement.{statement}
+use Rattle.coding.proofs.fixed_wrong.Tie as tie
 
 pub fixed-wrong-spec : {M : Type 1} → statement M
 unfolding fixedWrong

@@ -11,7 +11,8 @@ use borrow.Author.Tests.{eqb-true, eqb-false, ne-eqb, eq-eqb, ltb-false, leb-tru
 use Rattle.wire.specs.Wire.{numberAt}
 use Rattle.wire.specs.Tests.{if_then_else_}
 use Rattle.wire.proofs.Tests.{both, neither, by-test, passed}
-use Rattle.attribute.specs.Attributes.{sentFixed, attributeType, attributeSize, outOfBounds, find, attribute, mustBeFixed, fixedWrong, isDuration, durationWrong, attributeCode, attributesFrom, attributesCode, countFrom, attributeCount}
+use Rattle.attribute.specs.Attributes.{sentFixed, attributeType, attributeSize, find, attribute, countFrom, attributeCount}
+use Rattle.coding.specs.Coding.{outOfBounds, mustBeFixed, fixedWrong, isDuration, durationWrong, attributeCode, attributesFrom, attributesCode}
 
 -- how often a type is wanted; each wanted type stands once in a list that is apart
 unfoldable pub wantedTimes : List ℕ → ℕ → ℕ

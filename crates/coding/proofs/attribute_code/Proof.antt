@@ -1,7 +1,7 @@
-use Rattle.attribute.proofs.Ways.{code-bounds, code-twice, code-fixed, code-duration, code-done}
+use Rattle.coding.proofs.Ways.{code-bounds, code-twice, code-fixed, code-duration, code-done}
 use borrow.Author.Needs.{needs}
-use Rattle.attribute.proofs.attribute_code.Statement.{statement}
-use Rattle.attribute.proofs.attribute_code.Tie as tie
+use Rattle.coding.proofs.attribute_code.Statement.{statement}
+use Rattle.coding.proofs.attribute_code.Tie as tie
 
 pub attribute-code-spec : {M : Type 1} → statement M
 attribute-code-spec =
