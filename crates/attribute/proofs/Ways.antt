@@ -10,9 +10,8 @@ use lib.Dec.{ltb, eqb}
 use borrow.Author.Tests.{eq-eqb, ne-eqb, lt-ltb, le-ltb}
 use Rattle.wire.specs.Wire.{numberAt}
 use Rattle.wire.specs.Tests.{if_then_else_}
-use Rattle.wire.proofs.Tests.{by-test}
 use Rattle.wire.proofs.Laws.{number-one, number-join}
-use Rattle.attribute.specs.Attributes.{sentFixed, value, attributeType, attributeSize, find, countFrom}
+use Rattle.attribute.specs.Attributes.{sentFixed, value, attributeType, attributeSize, afterAttribute, find}
 
 pub size-variable : (s : List ℕ) (b : Bool) (n : ℕ) → b ≡ sentFixed s → n ≡ numberAt 2 s 2 → b ≡ false → 4 + n ≡ attributeSize s
 unfolding attributeSize
@@ -52,7 +51,7 @@ module _ (a : List ℕ) (b : Bool) (eb : b ≡ sentFixed a) where
 
 find-step : (left t : ℕ) (s : List ℕ) → (left ≡ 0 → ⊥) →
     find left t s ≡ (if ltb (length s) 4 then [] else if eqb (attributeType s) t then take (attributeSize s) s else find (left - 1) t (drop (attributeSize s) s))
-unfolding find
+unfolding find afterAttribute
 find-step zero t s h = absurd (h refl)
 find-step (suc left) t s h = let i : suc left - 1 ≡ left = omega arith in rw i
 
@@ -90,27 +89,3 @@ module _ (left t at : ℕ) (s goal : List ℕ) (so-far : find left t (drop at s)
 
       pub search-on : find (left - 1) t (drop (at + n) s) ≡ goal
       search-on = rw (← drop-drop n at s, ← eh) on
-
--- ---- how many
-
-count-most : (left : ℕ) (s : List ℕ) → countFrom left s ≤ left
-unfolding countFrom
-count-most zero s = omega arith
-count-most (suc left) s = by-test (eqb (length s) 0) (λ e. rw e (omega arith)) (λ e. rw e (omega (arith, count-most left (drop (attributeSize s) s))))
-
-pub count-below : (left n : ℕ) (s : List ℕ) → n ≡ countFrom left s → n ≤ left
-count-below left n s e = omega (arith, count-most left s)
-
-module _ (left : ℕ) (s : List ℕ) where
-  pub count-out : left ≡ 0 → 0 ≡ countFrom left s
-  unfolding countFrom
-  count-out z = rw z
-
-  module _ (may : left ≡ 0 → ⊥) where
-    pub count-end : length s ≡ 0 → 0 ≡ countFrom left s
-    unfolding countFrom
-    count-end h = let i : left ≡ suc (left - 1) = omega arith in rw (i, eq-eqb (length s) 0 h)
-
-    pub count-on : (length s ≡ 0 → ⊥) → (m n : ℕ) (rest : List ℕ) → m ≡ attributeSize s → rest ≡ drop m s → n ≡ countFrom (left - 1) rest → 1 + n ≡ countFrom left s
-    unfolding countFrom
-    count-on h m n rest em er e = let i : left ≡ suc (left - 1) = omega arith in rw (i, ne-eqb (length s) 0 h, ← em, ← er, ← e)

@@ -6,6 +6,7 @@ use lib.ListN.{length, getD, take, drop}
 use lib.Dec.{ltb, leb, eqb}
 use Rattle.wire.specs.Wire.{numberAt}
 use Rattle.wire.specs.Tests.{if_then_else_}
+use Rattle.wire.specs.Parts.{parts}
 
 -- "high bit of the type set means a two-byte value"
 unfoldable pub sentFixed : List ℕ → Bool
@@ -19,13 +20,17 @@ attributeType s = numberAt 2 s 0 % 0x8000
 unfoldable pub attributeSize : List ℕ → ℕ
 attributeSize s = if sentFixed s then 4 else 4 + numberAt 2 s 2
 
+-- what follows the attribute
+unfoldable pub afterAttribute : List ℕ → List ℕ
+afterAttribute s = drop (attributeSize s) s
+
 -- the attribute of type t among the first k of s, no bytes where there is none
 unfoldable pub find : ℕ → ℕ → List ℕ → List ℕ
 find zero t s = []
 find (suc k) t s =
     if ltb (length s) 4 then []
     else if eqb (attributeType s) t then take (attributeSize s) s
-    else find k t (drop (attributeSize s) s)
+    else find k t (afterAttribute s)
 
 -- the attribute of type t in a transform's attributes
 unfoldable pub attribute : ℕ → List ℕ → List ℕ
@@ -35,11 +40,6 @@ attribute t s = find 16 t s
 unfoldable pub value : List ℕ → ℕ
 value a = if sentFixed a then numberAt 2 a 2 else numberAt (min (numberAt 2 a 2) 4) a 4
 
--- how many attributes s has, at most left
-unfoldable pub countFrom : ℕ → List ℕ → ℕ
-countFrom zero s = 0
-countFrom (suc left) s = if eqb (length s) 0 then 0 else 1 + countFrom left (drop (attributeSize s) s)
-
 -- how many attributes a transform has; lawful ones are at most 16
 unfoldable pub attributeCount : List ℕ → ℕ
-attributeCount s = countFrom 16 s
+attributeCount s = parts afterAttribute 16 s

@@ -5,7 +5,8 @@ use wire::be32;
 use wire::byte;
 use wire::front;
 ghost use mathlib.Core.Path.{_≡_};
-ghost use Rattle.attribute.specs.Attributes.{sentFixed, attributeType, attributeSize, find, attribute, value, countFrom, attributeCount};
+ghost use Rattle.wire.specs.Parts.{parts};
+ghost use Rattle.attribute.specs.Attributes.{sentFixed, attributeType, attributeSize, afterAttribute, find, attribute, value, attributeCount};
 
 // Whether the attribute has its value in its own four bytes.
 pub fn sent_fixed(s: &[u8]) -> bool
@@ -29,6 +30,12 @@ pub fn attribute_size(s: &[u8]) -> usize
     } else {
         4 + be16(s, 2) as usize
     }
+}
+
+fn after_attribute(s: &[u8]) -> &[u8]
+    ensures { λ r. ⌜ now r ≡ afterAttribute (now (s .entry)) ⌝ }
+{
+    after(s, attribute_size(s))
 }
 
 fn find(most: u8, kind: u16, s: &[u8]) -> &[u8]
@@ -78,8 +85,8 @@ pub fn value(a: &[u8]) -> u32
     }
 }
 
-fn count_from(left: u8, s: &[u8]) -> u8
-    ensures { λ r. ⌜ r ≡ countFrom left (now (s .entry)) ⌝ }
+fn attributes(left: u8, s: &[u8]) -> u8
+    ensures { λ r. ⌜ r ≡ parts afterAttribute left (now (s .entry)) ⌝ }
 {
     if left == 0 {
         return 0;
@@ -87,12 +94,12 @@ fn count_from(left: u8, s: &[u8]) -> u8
     if s.len() == 0 {
         return 0;
     }
-    1 + count_from(left - 1, after(s, attribute_size(s)))
+    1 + attributes(left - 1, after_attribute(s))
 }
 
 // How many attributes a transform has.
 pub fn attribute_count(s: &[u8]) -> u8
     ensures { λ r. ⌜ r ≡ attributeCount (now (s .entry)) ⌝ }
 {
-    count_from(16, s)
+    attributes(16, s)
 }

@@ -10,8 +10,9 @@ use lib.Dec.{ltb, leb, eqb}
 use borrow.Author.Tests.{eqb-true, eqb-false, ne-eqb, eq-eqb, ltb-false, leb-true, not-false}
 use Rattle.wire.specs.Wire.{numberAt}
 use Rattle.wire.specs.Tests.{if_then_else_}
+use Rattle.wire.specs.Parts.{parts}
 use Rattle.wire.proofs.Tests.{both, neither, by-test, passed}
-use Rattle.attribute.specs.Attributes.{sentFixed, attributeType, attributeSize, find, attribute, countFrom, attributeCount}
+use Rattle.attribute.specs.Attributes.{sentFixed, attributeType, attributeSize, afterAttribute, find, attribute, attributeCount}
 use Rattle.coding.specs.Coding.{outOfBounds, mustBeFixed, fixedWrong, isDuration, durationWrong, attributeCode, attributesFrom, attributesCode}
 
 -- how often a type is wanted; each wanted type stands once in a list that is apart
@@ -108,7 +109,7 @@ hits ws zero s = 0
 hits ws (suc k) s = if eqb (length s) 0 then 0 else wantedTimes ws (attributeType s) + hits ws k (drop (attributeSize s) s)
 
 found-hit : (w k : ℕ) (s : List ℕ) → 4 ≤ length (find k w s) → 1 ≤ hits (w ∷ []) k s
-unfolding find hits wantedTimes
+unfolding find afterAttribute hits wantedTimes
 found-hit w zero s h = absurd (omega arith)
 found-hit w (suc k) s h =
     by-test (ltb (length s) 4)
@@ -135,17 +136,17 @@ there-hits (w ∷ ws) k s h =
 
 -- no more are hit than stand there, and where all are hit they are short
 record Hit (ws : List ℕ) (k : ℕ) (s : List ℕ) : Type 0 where
-  few : hits ws k s ≤ countFrom k s
-  short : countFrom k s ≤ hits ws k s → length s ≤ 8 * countFrom k s
+  few : hits ws k s ≤ parts afterAttribute k s
+  short : parts afterAttribute k s ≤ hits ws k s → length s ≤ 8 * parts afterAttribute k s
 
 module _ (exchange : ℕ) (ws : List ℕ) (once : apart ws ≡ true) (brief : allShort exchange ws ≡ true) where
   hit-none : (k : ℕ) (s : List ℕ) → length s ≡ 0 → Hit ws k s
-  unfolding hits countFrom
+  unfolding hits parts afterAttribute
   hit-none zero s z = record { few = omega arith; short = λ l. omega arith }
   hit-none (suc k) s z = let e : eqb (length s) 0 ≡ true = eq-eqb (length s) 0 z in record { few = rw e (omega arith); short = λ l. omega arith }
 
   hit-on : (k : ℕ) (s : List ℕ) → (length s ≡ 0 → ⊥) → Sound exchange s → Hit ws k (drop (attributeSize s) s) → Hit ws (suc k) s
-  unfolding hits countFrom
+  unfolding hits parts afterAttribute
   hit-on k s some o r =
       let e : eqb (length s) 0 ≡ false = ne-eqb (length s) 0 some in
       let t : ℕ = attributeType s in
@@ -163,7 +164,7 @@ module _ (exchange : ℕ) (ws : List ℕ) (once : apart ws ≡ true) (brief : al
       }
 
   hit : (k : ℕ) (before s : List ℕ) → attributesFrom k exchange before s ≡ 0 → Hit ws k s
-  unfolding attributesFrom
+  unfolding attributesFrom afterAttribute
   hit zero before s h = by-test (eqb (length s) 0) (λ e. hit-none zero s (eqb-true _ _ e)) (λ e. absurd (omega (arith, rw e at h)))
   hit (suc k) before s h =
       let code : ℕ = attributeCode exchange before s in

@@ -10,7 +10,7 @@ use lib.Dec.{eqb}
 use borrow.Author.Tests.{eq-eqb, ne-eqb, le-leb, lt-leb}
 use Rattle.wire.specs.Tests.{if_then_else_}
 use Rattle.coding.proofs.Laws.{sound}
-use Rattle.attribute.specs.Attributes.{attributeType, attributeSize, attribute}
+use Rattle.attribute.specs.Attributes.{attributeType, attributeSize, afterAttribute, attribute}
 use Rattle.coding.specs.Coding.{outOfBounds, fixedWrong, durationWrong, attributeCode, attributesFrom}
 
 -- ---- one attribute
@@ -49,7 +49,7 @@ attributes-step : (left exchange : ℕ) (before s : List ℕ) → (left ≡ 0 �
     ≡ (if eqb (length s) 0 then 0
     else if not (eqb (attributeCode exchange before s) 0) then attributeCode exchange before s
     else attributesFrom (left - 1) exchange (before ++ take (attributeSize s) s) (drop (attributeSize s) s))
-unfolding attributesFrom
+unfolding attributesFrom afterAttribute
 attributes-step zero exchange before s h = absurd (h refl)
 attributes-step (suc left) exchange before s h = let i : suc left - 1 ≡ left = omega arith in rw i
 

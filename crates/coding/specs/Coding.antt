@@ -2,11 +2,11 @@
 use Prim.Native.Nat.{ℕ, zero, suc, _+_}
 use mathlib.Core.List.{List, [], _++_}
 use mathlib.Core.Bool.{Bool, not, _||_, _&&_}
-use lib.ListN.{length, take, drop}
+use lib.ListN.{length, take}
 use lib.Dec.{ltb, leb, eqb}
 use Rattle.wire.specs.Wire.{numberAt}
 use Rattle.wire.specs.Tests.{if_then_else_}
-use Rattle.attribute.specs.Attributes.{sentFixed, attributeType, attributeSize, attribute}
+use Rattle.attribute.specs.Attributes.{sentFixed, attributeType, attributeSize, afterAttribute, attribute}
 
 -- "Out of bounds"
 unfoldable pub outOfBounds : List ℕ → Bool
@@ -45,7 +45,7 @@ attributesFrom zero exchange before s = if eqb (length s) 0 then 0 else 15
 attributesFrom (suc k) exchange before s =
     if eqb (length s) 0 then 0
     else if not (eqb (attributeCode exchange before s) 0) then attributeCode exchange before s
-    else attributesFrom k exchange (before ++ take (attributeSize s) s) (drop (attributeSize s) s)
+    else attributesFrom k exchange (before ++ take (attributeSize s) s) (afterAttribute s)
 
 -- 0 where the attributes of a transform are lawful, else the refusal
 unfoldable pub attributesCode : ℕ → List ℕ → ℕ

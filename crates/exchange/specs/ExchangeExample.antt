@@ -7,6 +7,7 @@ use mathlib.Core.Bool.{true}
 use native.Mathlib.Omega.{arith}
 use lib.ListN.{replicate}
 use Rattle.wire.specs.Wire.{numberAt, allZero, equal}
+use Rattle.wire.specs.Parts as parts
 use Rattle.put.specs.Put.{bytesOf, head, headed, paste}
 use Rattle.identity.specs.Identity as identities
 use Rattle.attribute.specs.Attributes as attributes
@@ -131,14 +132,14 @@ pub record Computed : Type 0 where
 pub computed : Computed
 unfolding start bookOne bookTwo firstIdentity secondIdentity nonceOne nonceTwo buffer filled messageFirst messageSecond messageThird trace after FairTrace called
     numberAt bytesOf head headed allZero equal paste
-    attributes.sentFixed attributes.attributeType attributes.attributeSize coding.outOfBounds attributes.find attributes.attribute coding.mustBeFixed coding.fixedWrong coding.isDuration coding.durationWrong coding.attributeCode coding.attributesFrom coding.attributesCode attributes.value attributes.countFrom attributes.attributeCount
+    attributes.sentFixed attributes.attributeType attributes.attributeSize attributes.afterAttribute coding.outOfBounds attributes.find attributes.attribute coding.mustBeFixed coding.fixedWrong coding.isDuration coding.durationWrong coding.attributeCode coding.attributesFrom coding.attributesCode attributes.value attributes.attributeCount
     transforms.nextWanted transforms.transformWrong transforms.transformCode transforms.transformsCode
     proposals.proposalWrong proposals.has proposals.with proposals.none proposals.setBefore proposals.orderWrong proposals.protocolWrong proposals.spiWrong proposals.countWrong proposals.transformBytes proposals.innerCode proposals.proposalCode proposals.proposalsCode proposals.offerCode
     header.lengthWrong header.majorWrong header.minorWrong header.exchangeRefused header.exchangeUnknown header.flagsWrong header.cookieWrong header.messageIdWrong header.flaggedLengthWrong header.noPayload header.headerCode
     identities.quickData identities.portZero identities.lawful identities.identityCode
     payloads.typeWrong payloads.lengthOut payloads.hashCode payloads.nonceCode payloads.bodyCode payloads.bodyOf payloads.payloadCode payloads.restCode
     message.inFront message.chain message.reading message.exchangeAndCount message.message message.walk message.payloadAt
-    items.skip items.parts items.firstItem items.afterItem sets.setEnd sets.firstSet sets.afterSet items.numbered sets.set sets.setCount sets.setNumbered items.proposal items.proposalCount fields.proposalNumber fields.protocol fields.spi fields.transformCount items.transform items.transformNumbered fields.transformNumber fields.transformId fields.attributesOf
+    parts.skip parts.parts items.firstItem items.afterItem sets.setEnd sets.firstSet sets.afterSet items.numbered sets.set sets.setCount sets.setNumbered items.proposal items.proposalCount fields.proposalNumber fields.protocol fields.spi fields.transformCount items.transform items.transformNumbered fields.transformNumber fields.transformId fields.attributesOf
     lines.quickStart lines.quickCount lines.bookSize lines.mainSeconds lines.quickAt lines.quickProtocols lines.quickMode lines.quickSeconds books.mainLineLawful books.quickLineLawful books.mainLinesLawful books.quickLinesLawful books.bookInFront
     suits.present suits.valueIs suits.lifeWithin suits.nothingSurplus suits.quickId suits.quickIntegrity suits.quickSuits suits.suitsLine suits.transformSuits suits.lowestFrom suits.lowest suits.protocolsAlone suits.protocolsBoth suits.protocolsSuit suits.setSuits
     choices.lineCount choices.lineFrom choices.firstLine choices.numberOf choices.transformsOf choices.chosen choices.setFrom choices.chooseFrom choices.bodyAt

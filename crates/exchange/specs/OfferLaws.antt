@@ -15,14 +15,15 @@ use Rattle.wire.specs.Tests.{if_then_else_}
 use Rattle.wire.proofs.Tests.{by-test}
 use Rattle.wire.proofs.Laws.{number-append, number-append-add}
 use Rattle.put.proofs.Laws.{number-bytesOf, length-bytesOf, length-headed, headed-lies}
-use Rattle.attribute.specs.Attributes.{sentFixed, attributeType, attributeSize, find, attribute}
+use Rattle.attribute.specs.Attributes.{sentFixed, attributeType, attributeSize, afterAttribute, find, attribute}
 use Rattle.coding.specs.Coding.{outOfBounds, mustBeFixed, fixedWrong, isDuration, durationWrong, attributeCode, attributesFrom, attributesCode}
 use Rattle.offer.specs.Proposals.{has, with, setBefore, orderWrong, protocolWrong, proposalCode, proposalsCode}
 use Rattle.offer.specs.Proposals as proposals
 use Rattle.offer.proofs.Laws.{Item, Rising, end, on, LawfulTransform}
 use Rattle.offer.proofs.Written.{proposed, Keyed, keyed, Writes, alone-transforms, proposed-size, proposed-code, proposed-lawful, order-first, last-proposal, more-proposals}
 use Rattle.fields.specs.Fields.{transformCount}
-use Rattle.items.specs.Items.{skip, parts, firstItem, proposal, proposalCount, transform}
+use Rattle.wire.specs.Parts.{skip, parts}
+use Rattle.items.specs.Items.{firstItem, proposal, proposalCount, transform}
 use Rattle.sets.specs.Sets.{setEnd, firstSet, afterSet, set, setCount}
 use Rattle.sets.proofs.Laws.{Same, same-end, same-on}
 use Rattle.sets.proofs.Places.{proposals-count, proposals-place}
@@ -38,11 +39,11 @@ use Rattle.ends.specs.declared.Own.{Own}
 -- "the suiting attributes with the line's seconds, sent fixed, in the order 4, 5 where there is one, 1, 2"
 module _ (mode high low : ℕ) where
   four-lawful : attributesCode 32 (0x80 ∷ 4 ∷ 0 ∷ mode ∷ 0x80 ∷ 5 ∷ 0 ∷ 20 ∷ 0x80 ∷ 1 ∷ 0 ∷ 1 ∷ 0x80 ∷ 2 ∷ high ∷ low ∷ []) ≡ 0
-  unfolding sentFixed attributeType attributeSize outOfBounds find attribute mustBeFixed fixedWrong isDuration durationWrong attributeCode attributesFrom attributesCode numberAt
+  unfolding sentFixed attributeType attributeSize afterAttribute outOfBounds find attribute mustBeFixed fixedWrong isDuration durationWrong attributeCode attributesFrom attributesCode numberAt
   four-lawful = refl
 
   three-lawful : attributesCode 32 (0x80 ∷ 4 ∷ 0 ∷ mode ∷ 0x80 ∷ 1 ∷ 0 ∷ 1 ∷ 0x80 ∷ 2 ∷ high ∷ low ∷ []) ≡ 0
-  unfolding sentFixed attributeType attributeSize outOfBounds find attribute mustBeFixed fixedWrong isDuration durationWrong attributeCode attributesFrom attributesCode numberAt
+  unfolding sentFixed attributeType attributeSize afterAttribute outOfBounds find attribute mustBeFixed fixedWrong isDuration durationWrong attributeCode attributesFrom attributesCode numberAt
   three-lawful = refl
 
 module _ (protocol i : ℕ) (book : List ℕ) where

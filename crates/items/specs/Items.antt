@@ -1,22 +1,13 @@
 -- The proposals of a set and the transforms of a proposal. Of bytes that do not read these give something too, which no rule asks for.
-use Prim.Native.Nat.{ℕ, zero, suc, _+_}
+use Prim.Native.Nat.{ℕ, zero, suc}
 use mathlib.Core.List.{List, []}
-use lib.ListN.{length, getD, take, drop}
+use lib.ListN.{getD, take, drop}
 use lib.Dec.{eqb}
 use Rattle.wire.specs.Wire.{numberAt}
 use Rattle.wire.specs.Tests.{if_then_else_}
+use Rattle.wire.specs.Parts.{skip, parts}
 use Rattle.offer.specs.Proposals.{transformBytes}
 use Rattle.fields.specs.declared.TransformNumber.{TransformNumber}
-
--- what is left of s after k of its parts, where rest takes off the first
-unfoldable pub skip : (List ℕ → List ℕ) → ℕ → List ℕ → List ℕ
-skip rest zero s = s
-skip rest (suc k) s = skip rest k (rest s)
-
--- how many parts s has, at most left
-unfoldable pub parts : (List ℕ → List ℕ) → ℕ → List ℕ → ℕ
-parts rest zero s = 0
-parts rest (suc left) s = if eqb (length s) 0 then 0 else 1 + parts rest left (rest s)
 
 -- proposals, and transforms, lie one behind the other, each with its length in its bytes 2 and 3
 unfoldable pub firstItem : List ℕ → List ℕ

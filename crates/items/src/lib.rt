@@ -6,7 +6,8 @@ use wire::be16;
 use wire::byte;
 use wire::front;
 ghost use mathlib.Core.Path.{_≡_};
-ghost use Rattle.items.specs.Items.{skip, parts, numbered, firstItem, afterItem, proposal, proposalCount, transform, transformNumbered};
+ghost use Rattle.wire.specs.Parts.{skip, parts};
+ghost use Rattle.items.specs.Items.{numbered, firstItem, afterItem, proposal, proposalCount, transform, transformNumbered};
 
 fn first_item(s: &[u8]) -> &[u8]
     ensures { λ r. ⌜ now r ≡ firstItem (now (s .entry)) ⌝ }

@@ -12,7 +12,8 @@ use Rattle.wire.specs.Tests.{if_then_else_}
 use Rattle.wire.proofs.Tests.{by-test}
 use Rattle.offer.specs.Proposals.{offerCode}
 use Rattle.fields.specs.Fields.{proposalNumber}
-use Rattle.items.specs.Items.{skip, parts, firstItem, afterItem, proposal, proposalCount}
+use Rattle.wire.specs.Parts.{skip, parts}
+use Rattle.items.specs.Items.{firstItem, afterItem, proposal, proposalCount}
 use Rattle.sets.specs.Sets.{setEnd, firstSet, afterSet, set, setCount}
 use Rattle.offer.proofs.Laws.{Rising, end, on}
 use Rattle.sets.proofs.Laws.{Same, same-end, same-on, Sets, sets-end, sets-on, Parted, parted, first-item, after-item}

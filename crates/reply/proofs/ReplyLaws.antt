@@ -20,7 +20,8 @@ use Rattle.offer.specs.Proposals as proposals
 use Rattle.offer.proofs.Laws.{Item, Rising, end, on, LawfulTransform}
 use Rattle.offer.proofs.Written.{proposed, Keyed, unkeyed, keyed, Writes, alone-transforms, order-first, proposed-lawful, one-reads, two-read, offer-right}
 use Rattle.fields.specs.Fields.{proposalNumber, protocol, spi, transformCount}
-use Rattle.items.specs.Items.{skip, firstItem, proposal, proposalCount, transform}
+use Rattle.wire.specs.Parts.{skip}
+use Rattle.items.specs.Items.{firstItem, proposal, proposalCount, transform}
 use Rattle.sets.specs.Sets.{set, setCount, setNumbered}
 use Rattle.fields.specs.declared.ProposalNumber.{ProposalNumber}
 use Rattle.fields.specs.declared.TransformNumber.{TransformNumber}

@@ -13,7 +13,8 @@ use Rattle.wire.specs.Tests.{if_then_else_}
 use Rattle.wire.proofs.Tests.{by-test}
 use Rattle.wire.proofs.Laws.{number-append, number-append-add, take-within, drop-within}
 use Rattle.offer.specs.Proposals.{transformBytes, offerCode}
-use Rattle.items.specs.Items.{skip, firstItem, afterItem, numbered, proposal, transformNumbered}
+use Rattle.wire.specs.Parts.{skip}
+use Rattle.items.specs.Items.{firstItem, afterItem, numbered, proposal, transformNumbered}
 use Rattle.sets.specs.Sets.{setEnd, firstSet, afterSet, setNumbered}
 use Rattle.fields.specs.declared.ProposalNumber.{ProposalNumber}
 use Rattle.fields.specs.declared.TransformNumber.{TransformNumber}

@@ -11,7 +11,8 @@ use Rattle.transforms.specs.Transforms.{transformsCode}
 use Rattle.offer.specs.Proposals.{transformBytes, offerCode}
 use Rattle.offer.proofs.Laws.{Item, Rising, end, on, LawfulTransform, first-transform, after-transform}
 use Rattle.fields.specs.Fields.{proposalNumber, transformCount, transformNumber}
-use Rattle.items.specs.Items.{skip, parts, firstItem, afterItem, numbered, proposal, proposalCount, transform, transformNumbered}
+use Rattle.wire.specs.Parts.{skip, parts}
+use Rattle.items.specs.Items.{firstItem, afterItem, numbered, proposal, proposalCount, transform, transformNumbered}
 use Rattle.sets.specs.Sets.{setEnd, firstSet, afterSet, set, setCount, setNumbered}
 use Rattle.sets.proofs.Laws.{first-item, after-item, Same, same-end, same-on, Sets, sets-end, sets-on, parted, flatten-some, alone-first, alone-after}
 

@@ -7,7 +7,8 @@ use lib.Dec.{ltb, eqb}
 use Rattle.wire.specs.Wire.{numberAt}
 use Rattle.wire.specs.Tests.{if_then_else_}
 use Rattle.fields.specs.declared.ProposalNumber.{ProposalNumber}
-use Rattle.items.specs.Items.{skip, parts, numbered}
+use Rattle.wire.specs.Parts.{skip, parts}
+use Rattle.items.specs.Items.{numbered}
 
 -- "Proposals with equal number form one set": where the proposals with this number end, of which so many may come from at on
 unfoldable pub setEnd : ℕ → ℕ → List ℕ → ℕ → ℕ

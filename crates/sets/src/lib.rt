@@ -5,7 +5,8 @@ use wire::be16;
 use wire::byte;
 use wire::front;
 ghost use mathlib.Core.Path.{_≡_};
-ghost use Rattle.items.specs.Items.{skip, parts, numbered};
+ghost use Rattle.wire.specs.Parts.{skip, parts};
+ghost use Rattle.items.specs.Items.{numbered};
 ghost use Rattle.sets.specs.Sets.{setEnd, firstSet, afterSet, set, setCount, setNumbered};
 
 fn set_end(left: u8, number: u8, s: &[u8], at: usize) -> usize

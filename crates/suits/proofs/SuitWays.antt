@@ -13,7 +13,8 @@ use Rattle.wire.proofs.Tests.{clash}
 use Rattle.wire.specs.Wire.{numberAt}
 use Rattle.offer.specs.Proposals.{transformBytes}
 use Rattle.fields.specs.Fields.{transformId, attributesOf, protocol}
-use Rattle.items.specs.Items.{skip, firstItem, afterItem, transform, proposal, proposalCount}
+use Rattle.wire.specs.Parts.{skip}
+use Rattle.items.specs.Items.{firstItem, afterItem, transform, proposal, proposalCount}
 use Rattle.booklines.specs.Lines.{mainSeconds, quickProtocols, quickMode, quickSeconds}
 use Rattle.suits.specs.Suits.{valueIs, nothingSurplus, quickId, lifeWithin, quickIntegrity, mainSuits, quickSuits, suitsLine, transformSuits, lowestFrom, lowest, protocolsAlone, protocolsBoth, protocolsSuit, setSuits}
 

@@ -19,7 +19,8 @@ use wire::front;
 ghost use mathlib.Core.Path.{_≡_};
 ghost use Prim.Native.Nat.{_+_, _≤_};
 ghost use Rattle.offer.specs.Proposals.{transformBytes};
-ghost use Rattle.items.specs.Items.{skip, afterItem};
+ghost use Rattle.wire.specs.Parts.{skip};
+ghost use Rattle.items.specs.Items.{afterItem};
 ghost use Rattle.booklines.specs.Lines.{quickProtocols, quickMode, quickSeconds};
 ghost use Rattle.suits.specs.Suits.{valueIs, lifeWithin, nothingSurplus, mainValues, mainSuits, quickId, quickIntegrity, quickSuits, suitsLine, lowestFrom, lowest, protocolsAlone, protocolsBoth, protocolsSuit, setSuits};
 

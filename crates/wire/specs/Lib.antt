@@ -1,3 +1,4 @@
 pub mod Wire
 pub mod Tests
+pub mod Parts
 pub mod Answer

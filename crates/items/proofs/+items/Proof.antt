@@ -1,7 +1,7 @@
 use borrow.Author.Needs.{needs}
 use Rattle.items.specs.Items.{afterItem}
 use native.Mathlib.Omega.{arith}
-use Rattle.items.proofs.Ways.{parts-out, parts-end, parts-on, parts-below}
+use Rattle.wire.proofs.Parts.{parts-out, parts-end, parts-on, parts-below}
 use Prim.Native.Nat.{ℕ, _<_}
 use borrow.Fn.Kinds.{In}
 use borrow.Fn.PlainCycle.{Measures, is, falls, and}
