@@ -5,8 +5,11 @@ use crate::timing;
 use crate::window::{self, Life, Window, ACCEPTED, LIVES};
 use std::hint::black_box;
 
-/// 64 rooms of six words (crates/sequence/src/table.rt).
-type Words = [u64; 384];
+/// The core's table: so many rooms of so many words (crates/sequence/src/table.rt).
+const ROOMS: usize = 64;
+const WORDS: usize = 6;
+
+type Words = [u64; ROOMS * WORDS];
 
 type Step = unsafe extern "C" fn(&mut Window, u32, bool) -> u32;
 
@@ -14,21 +17,21 @@ type Step = unsafe extern "C" fn(&mut Window, u32, bool) -> u32;
 type PacketInto<Table> = unsafe extern "C" fn(&mut Table, u32, u8, bool, *const u8, usize) -> u32;
 
 extern "C" {
-    fn tallowbrim_step(record: &mut Window, number: u32, whole: bool) -> u32;
+    fn tallowbrim_step(record: &mut Window, number: u32, integrity: bool) -> u32;
     fn tallowbrim_packet(
         table: &mut Words,
         destination: u32,
         protocol: u8,
-        whole: bool,
+        integrity: bool,
         start: *const u8,
         length: usize,
     ) -> u32;
-    fn plain_c_step(window: &mut Window, number: u32, whole: bool) -> u32;
+    fn plain_c_step(window: &mut Window, number: u32, integrity: bool) -> u32;
     fn plain_c_packet(
         lives: &mut [Life; LIVES],
         destination: u32,
         protocol: u8,
-        whole: bool,
+        integrity: bool,
         start: *const u8,
         length: usize,
     ) -> u32;
@@ -79,7 +82,7 @@ pub fn table() -> Ratios {
 fn steps(call: Step, stream: &[Packet]) -> impl Iterator<Item = u32> + '_ {
     let mut record = Window::default();
     // SAFETY: each of the three takes any record and any number.
-    stream.iter().map(move |packet| unsafe { call(&mut record, packet.number, packet.whole) })
+    stream.iter().map(move |packet| unsafe { call(&mut record, packet.number, packet.integrity) })
 }
 
 /// The verdicts of packets into a table.
@@ -90,7 +93,14 @@ fn into<Table>(
 ) -> impl Iterator<Item = u32> + use<'_, Table> {
     // SAFETY: the last two are those of a slice that outlives the call.
     stream.iter().map(move |packet| unsafe {
-        call(&mut table, packet.destination, packet.protocol, packet.whole, packet.bytes.as_ptr(), packet.bytes.len())
+        call(
+            &mut table,
+            packet.destination,
+            packet.protocol,
+            packet.integrity,
+            packet.bytes.as_ptr(),
+            packet.bytes.len(),
+        )
     })
 }
 
@@ -100,8 +110,8 @@ fn sum(verdicts: impl Iterator<Item = u32>) {
 
 /// The 64 lives as the core's words, each at its beginning.
 fn words() -> Words {
-    let mut words = [0; 384];
-    for (room, key) in words.chunks_exact_mut(6).zip(streams::keys()) {
+    let mut words = [0; ROOMS * WORDS];
+    for (room, key) in words.chunks_exact_mut(WORDS).zip(streams::keys()) {
         room[0] = u64::from(key.protocol) + 1;
         room[1] = key.destination.into();
         room[2] = key.spi.into();

@@ -17,14 +17,14 @@ pub struct Packet {
     pub destination: u32,
     pub protocol: u8,
     pub number: u32,
-    pub whole: bool,
+    pub integrity: bool,
     pub bytes: [u8; 32],
 }
 
 /// How the numbers of a life come in.
 #[derive(Clone, Copy)]
 pub enum Order {
-    /// 1, 2, 3, .., all whole.
+    /// 1, 2, 3, .., all with integrity.
     InOrder,
     /// Of 100 packets some 12 late or repeated, 4 behind the window, 4 after a loss of up to 99, 4 of no integrity.
     Mixed,
@@ -47,11 +47,11 @@ pub fn packets(order: Order, lives: usize) -> Vec<Packet> {
     (0..PACKETS)
         .map(|_| {
             let life = random.below(lives as u32) as usize;
-            let (number, whole) = next(order, highest[life], &mut random);
-            if whole {
+            let (number, integrity) = next(order, highest[life], &mut random);
+            if integrity {
                 highest[life] = number.max(highest[life]);
             }
-            packet(keys[life], number, whole)
+            packet(keys[life], number, integrity)
         })
         .collect()
 }
@@ -70,14 +70,14 @@ fn next(order: Order, highest: u32, random: &mut Random) -> (u32, bool) {
     }
 }
 
-fn packet(key: Key, number: u32, whole: bool) -> Packet {
+fn packet(key: Key, number: u32, integrity: bool) -> Packet {
     let mut bytes = [0; 32];
     let at = if key.protocol == AH { 4 } else { 0 };
     // AH's length field: 24 bytes, the integrity value with them.
     bytes[1] = if key.protocol == AH { 4 } else { 0 };
     bytes[at..at + 4].copy_from_slice(&key.spi.to_be_bytes());
     bytes[at + 4..at + 8].copy_from_slice(&number.to_be_bytes());
-    Packet { destination: key.destination, protocol: key.protocol, number, whole, bytes }
+    Packet { destination: key.destination, protocol: key.protocol, number, integrity, bytes }
 }
 
 /// Xorshift: the same numbers each time.

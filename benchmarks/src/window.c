@@ -18,13 +18,13 @@ struct life {
     struct window window;
 };
 
-uint32_t plain_c_step(struct window *w, uint32_t number, bool whole)
+uint32_t plain_c_step(struct window *w, uint32_t number, bool integrity)
 {
     uint64_t n = number;
     if (n == 0 || n + WINDOW <= w->highest)
         return 8197;
     if (n > w->highest) {
-        if (!whole)
+        if (!integrity)
             return 24;
         uint64_t up = n - w->highest;
         w->seen = up < WINDOW ? w->seen << up | 1 : 1;
@@ -34,7 +34,7 @@ uint32_t plain_c_step(struct window *w, uint32_t number, bool whole)
     uint64_t bit = (uint64_t)1 << (w->highest - n);
     if (w->seen & bit)
         return 8194;
-    if (!whole)
+    if (!integrity)
         return 24;
     w->seen |= bit;
     return ACCEPTED;
@@ -45,7 +45,7 @@ static uint32_t be32(const uint8_t *s)
     return (uint32_t)s[0] << 24 | (uint32_t)s[1] << 16 | (uint32_t)s[2] << 8 | s[3];
 }
 
-uint32_t plain_c_packet(struct life lives[LIVES], uint32_t destination, uint8_t protocol, bool whole, const uint8_t *s, size_t length)
+uint32_t plain_c_packet(struct life lives[LIVES], uint32_t destination, uint8_t protocol, bool integrity, const uint8_t *s, size_t length)
 {
     uint32_t spi, number;
     if (protocol == AH) {
@@ -67,7 +67,7 @@ uint32_t plain_c_packet(struct life lives[LIVES], uint32_t destination, uint8_t 
     for (int i = 0; i < LIVES; i++) {
         struct life *life = &lives[i];
         if (life->spi == spi && life->destination == destination && life->protocol == protocol && life->used)
-            return plain_c_step(&life->window, number, whole);
+            return plain_c_step(&life->window, number, integrity);
     }
     return 11;
 }

@@ -26,13 +26,13 @@ pub struct Life {
     pub window: Window,
 }
 
-pub extern "C" fn step(window: &mut Window, number: u32, whole: bool) -> u32 {
+pub extern "C" fn step(window: &mut Window, number: u32, integrity: bool) -> u32 {
     let number = u64::from(number);
     if number == 0 || number + WINDOW <= window.highest {
         return 8197;
     }
     if number > window.highest {
-        if !whole {
+        if !integrity {
             return 24;
         }
         let up = number - window.highest;
@@ -44,7 +44,7 @@ pub extern "C" fn step(window: &mut Window, number: u32, whole: bool) -> u32 {
     if window.seen & bit != 0 {
         return 8194;
     }
-    if !whole {
+    if !integrity {
         return 24;
     }
     window.seen |= bit;
@@ -57,7 +57,7 @@ pub unsafe extern "C" fn packet(
     lives: &mut [Life; LIVES],
     destination: u32,
     protocol: u8,
-    whole: bool,
+    integrity: bool,
     start: *const u8,
     length: usize,
 ) -> u32 {
@@ -67,7 +67,7 @@ pub unsafe extern "C" fn packet(
         Ok((spi, number)) => lives
             .iter_mut()
             .find(|life| life.spi == spi && life.destination == destination && life.protocol == protocol && life.used)
-            .map_or(11, |life| step(&mut life.window, number, whole)),
+            .map_or(11, |life| step(&mut life.window, number, integrity)),
     }
 }
 

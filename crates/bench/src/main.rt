@@ -27,7 +27,9 @@ use receive::fresh;
 use say::append;
 use seats::Kept;
 use seats::Seats;
+use sequence::table::ROOMS;
 use sequence::table::Table;
+use sequence::table::WORDS;
 use wire::after;
 use wire::front;
 
@@ -53,7 +55,7 @@ fn main() {
     let mut bytes = [0u8; 32768];
     let mut out = io::large_buffer();
     // The empty table.
-    let mut lives = [0u64; 384];
+    let mut lives = [0u64; ROOMS * WORDS];
     // What the ends keep: nothing yet.
     let mut sent = [0u8; 8192];
     let mut got = [0u8; 8192];
