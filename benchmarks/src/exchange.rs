@@ -16,7 +16,7 @@ const AH: u32 = 0x1000_0001;
 const ESP: u32 = 0x1000_0002;
 const NONCES: [[u8; 16]; 2] = [[0xa5; 16], [0x5a; 16]];
 
-/// 256 times the initiator's state and the responder's, both being 3, Open (crates/exportsquick/specs/Exchanges.antt).
+/// 256 times the initiator's state and the responder's, both being 3, Open (crates/exports_quick/specs/Exchanges.antt).
 const BOTH_OPEN: u32 = 256 * 3 + 3;
 
 const ROOM: usize = 2_048;

@@ -11,7 +11,7 @@ const AH: u32 = 0x1000_0001;
 const ESP: u32 = 0x1000_0002;
 const ROOM: usize = 2_048;
 
-/// A reply is answered by this and its size, a refusal by its number (crates/exportsquick/specs/Replies.antt).
+/// A reply is answered by this and its size, a refusal by its number (crates/exports_quick/specs/Replies.antt).
 const WRITTEN: u32 = 65_536;
 
 mod exports {

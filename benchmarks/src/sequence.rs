@@ -5,7 +5,7 @@ use crate::timing;
 use crate::window::{self, Life, Window, ACCEPTED, LIVES};
 use std::hint::black_box;
 
-/// The core's table: so many rooms of so many words (crates/sequence/src/table.rt).
+/// The core's table: so many rooms of so many words (crates/sequence_table/src/table.rt).
 const ROOMS: usize = 64;
 const WORDS: usize = 6;
 

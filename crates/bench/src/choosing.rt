@@ -5,17 +5,17 @@ use crate::hex::Parted;
 use crate::say;
 use crate::say::append;
 use crate::words;
-use book::Book;
-use policy::Choice;
-use policy::Transforms;
-use wire::after;
-use wire::front;
+use policy_book::Book;
+use policy_choice::Choice;
+use policy_choice::Transforms;
+use wire_read::after;
+use wire_read::front;
 
 pub(crate) fn book(line: &[u8], bytes: &mut [u8], out: &mut [u8], said: usize) -> usize {
     let Decoded::To(end) = hex::decode(words::nth(line, 1), bytes, 0) else {
         return say::bad_line(out, said);
     };
-    let read = book::read_book(front(bytes, end));
+    let read = policy_book::read_book(front(bytes, end));
     match read {
         Book::Refused(n) => say::refused(out, said, n),
         Book::Lawful { main, quick } => {
@@ -36,7 +36,7 @@ pub(crate) fn choose(line: &[u8], bytes: &mut [u8], out: &mut [u8], said: usize)
     };
     let both = front(bytes, end);
     chosen(
-        policy::choose::choose(front(both, middle), after(both, middle)),
+        policy_choice::choose::choose(front(both, middle), after(both, middle)),
         out,
         said,
     )

@@ -1,6 +1,6 @@
 // Bytes in hex: two digits of either case for each byte, or `-` for no bytes.
-use wire::byte;
-use wire::equal;
+use wire_read::byte;
+use wire_read::equal;
 ghost use mathlib.Core.Path.{_≡_};
 ghost use Prim.Native.Nat.{_+_, _-_, _≤_, _<_};
 

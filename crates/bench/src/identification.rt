@@ -5,8 +5,8 @@ use crate::say;
 use crate::say::append;
 use crate::words;
 use identity::identity_code;
-use wire::equal;
-use wire::front;
+use wire_read::equal;
+use wire_read::front;
 
 pub(crate) fn answer(line: &[u8], bytes: &mut [u8], out: &mut [u8], said: usize) -> usize {
     let exchange = words::nth(line, 1);

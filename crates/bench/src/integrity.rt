@@ -1,5 +1,5 @@
 // The word that says whether a packet's integrity holds: `yes` or `no`.
-use wire::equal;
+use wire_read::equal;
 
 pub(crate) enum Integrity {
     Holds(bool),

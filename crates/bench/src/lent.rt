@@ -7,10 +7,10 @@ use crate::number::Number;
 use crate::say;
 use crate::say::append;
 use crate::words;
-use receive::fresh;
-use receive::loss_line;
-use receive::step_lent;
-use wire::equal;
+use sequence_record::fresh;
+use sequence_record::loss_line;
+use sequence_record::step_lent;
+use wire_read::equal;
 
 pub(crate) fn new_or_loss(line: &[u8], out: &mut [u8], mut state: State) -> State {
     let asked = words::nth(line, 1);

@@ -9,13 +9,13 @@ use crate::number::Number;
 use crate::say;
 use crate::say::append;
 use crate::words;
-use sequence::table;
-use sequence::table::Counted;
-use sequence::table::Key;
-use sequence::table::Outcome;
-use sequence::table::Sending;
-use sequence::table::Table;
-use wire::front;
+use sequence_table::table;
+use sequence_table::table::Counted;
+use sequence_table::table::Key;
+use sequence_table::table::Outcome;
+use sequence_table::table::Sending;
+use sequence_table::table::Table;
+use wire_read::front;
 
 enum Addressed {
     To { destination: u32, protocol: u8 },

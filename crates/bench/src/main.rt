@@ -22,16 +22,16 @@ mod words;
 
 use libc::STDIN_FILENO;
 use libc::STDOUT_FILENO;
-use receive::Receive;
-use receive::fresh;
+use sequence_record::Receive;
+use sequence_record::fresh;
 use say::append;
 use seats::Kept;
 use seats::Seats;
-use sequence::table::ROOMS;
-use sequence::table::Table;
-use sequence::table::WORDS;
-use wire::after;
-use wire::front;
+use sequence_table::table::ROOMS;
+use sequence_table::table::Table;
+use sequence_table::table::WORDS;
+use wire_read::after;
+use wire_read::front;
 
 type Large = [u8; 65536];
 

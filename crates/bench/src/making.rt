@@ -16,11 +16,11 @@ use crate::seats::says;
 use crate::seats::seat_of;
 use crate::seats::seated;
 use crate::words;
-use ends::End;
-use ends::Role;
-use put::put_bytes;
-use wire::after;
-use wire::front;
+use quick_end::End;
+use quick_end::Role;
+use wire_write::put_bytes;
+use wire_read::after;
+use wire_read::front;
 
 struct Own {
     role: Role,
@@ -102,7 +102,7 @@ fn make(
     mut state: State,
 ) -> State {
     let role = own.role;
-    let made = ends::fresh(role, own.icookie, own.rcookie, book, own.ah, own.esp, nonce);
+    let made = quick_end::fresh(role, own.icookie, own.rcookie, book, own.ah, own.esp, nonce);
     if made.number != 0 {
         state.said = say::refused(out, state.said, made.number);
         return state;

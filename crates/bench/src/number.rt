@@ -2,8 +2,8 @@
 use crate::hex;
 use crate::hex::Decoded;
 use crate::hex::value;
-use wire::be32;
-use wire::byte;
+use wire_read::be32;
+use wire_read::byte;
 
 pub(crate) enum Number {
     Is(u32),

@@ -5,7 +5,7 @@ use crate::say;
 use crate::say::append;
 use crate::words;
 use port4500::Datagram;
-use wire::front;
+use wire_read::front;
 
 pub(crate) fn answer(line: &[u8], bytes: &mut [u8], out: &mut [u8], said: usize) -> usize {
     let Decoded::To(end) = hex::decode(words::nth(line, 1), bytes, 0) else {

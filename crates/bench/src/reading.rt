@@ -4,16 +4,16 @@ use crate::hex::Decoded;
 use crate::say;
 use crate::say::append;
 use crate::words;
-use message::Message;
-use message::Payload;
-use wire::front;
+use message_chain::Message;
+use message_chain::Payload;
+use wire_read::front;
 
 pub(crate) fn answer(line: &[u8], bytes: &mut [u8], out: &mut [u8], said: usize) -> usize {
     let Decoded::To(end) = hex::decode(words::nth(line, 1), bytes, 0) else {
         return say::bad_line(out, said);
     };
     let m = front(bytes, end);
-    let read = message::read(m);
+    let read = message_chain::read(m);
     match read {
         Message::Refused(n) => say::refused(out, said, n),
         Message::Read { exchange, count } => {
@@ -29,7 +29,7 @@ fn payloads(m: &[u8], count: u8, out: &mut [u8], said: usize) -> usize {
     let mut said = said;
     let mut k = 0;
     while k < count {
-        said = payload(message::payload_at(m, k), out, said);
+        said = payload(message_chain::payload_at(m, k), out, said);
         k += 1;
     }
     said

@@ -6,9 +6,9 @@ use crate::number::Number;
 use crate::say;
 use crate::say::append;
 use crate::words;
-use reply::Outcome;
-use wire::after;
-use wire::front;
+use policy_reply::Outcome;
+use wire_read::after;
+use wire_read::front;
 
 struct Own {
     ah: u32,
@@ -64,7 +64,7 @@ fn replied(book: &[u8], m: &[u8], own: Own, lent: &mut [u8], out: &mut [u8], sai
     if lent.len() < room {
         return say::bad_line(out, said);
     }
-    let reply = reply::reply(book, m, own.ah, own.esp, &mut lent[..room]);
+    let reply = policy_reply::reply(book, m, own.ah, own.esp, &mut lent[..room]);
     match reply {
         Outcome::Refused(n) => say::refused(out, said, n),
         Outcome::Written(size) => {

@@ -1,14 +1,14 @@
 // Filling a buffer: each function puts something at a place and gives back the place behind it. The line end of an answer
 // is put in verbs.rt, once for all.
 use crate::hex::digit;
-use put::put_bytes;
-use receive::LossLine;
-use receive::Verdict;
-use wire::byte;
+use wire_write::put_bytes;
+use sequence_record::LossLine;
+use sequence_record::Verdict;
+use wire_read::byte;
 ghost use mathlib.Core.Path.{_≡_};
 ghost use Prim.Native.Nat.{_+_, min};
 ghost use lib.ListN.{length};
-ghost use Rattle.put.specs.Put.{paste};
+ghost use Rattle.wire_write.specs.Put.{paste};
 
 // Puts bytes. Those that do not fit are left out, and the buffer is full.
 pub(crate) fn append(buffer: &mut [u8], at: usize, text: &[u8]) -> usize

@@ -1,12 +1,12 @@
 // The two ends of quick mode as they go from line to line, and which part of the kept buffers is lent to them.
 use crate::State;
 use crate::say::append;
-use ends::End;
-use ends::Role;
-use ends::fresh;
-use wire::after;
-use wire::equal;
-use wire::front;
+use quick_end::End;
+use quick_end::Role;
+use quick_end::fresh;
+use wire_read::after;
+use wire_read::equal;
+use wire_read::front;
 ghost use Prim.Native.Nat.{_≤_};
 
 // A kept buffer of each end: 4,096 bytes of the initiator's, and as many of the responder's behind them.

@@ -12,15 +12,15 @@ use crate::seats::place;
 use crate::seats::role_of;
 use crate::seats::seat_of;
 use crate::words;
-use ends::Agreed;
-use ends::End;
-use ends::Own;
-use ends::Progress;
-use ends::Role;
-use ends::Spis;
-use put::put_be32;
-use wire::after;
-use wire::front;
+use quick_end::Agreed;
+use quick_end::End;
+use quick_end::Own;
+use quick_end::Progress;
+use quick_end::Role;
+use quick_end::Spis;
+use wire_write::put_be32;
+use wire_read::after;
+use wire_read::front;
 
 pub(crate) fn state(line: &[u8], ends: Seats, got: &Kept, out: &mut [u8], said: usize) -> usize {
     let Who::Is(role) = role_of(words::nth(line, 1)) else {
@@ -54,13 +54,13 @@ fn state_and_sends(progress: Progress, out: &mut [u8], said: usize) -> usize {
     say::number(out, said, progress.sends as u64)
 }
 
-fn state_name(state: ends::State, out: &mut [u8], said: usize) -> usize {
+fn state_name(state: quick_end::State, out: &mut [u8], said: usize) -> usize {
     match state {
-        ends::State::Idle => append(out, said, b"idle"),
-        ends::State::Sent => append(out, said, b"sent"),
-        ends::State::Half => append(out, said, b"half"),
-        ends::State::Open => append(out, said, b"open"),
-        ends::State::GivenUp => append(out, said, b"given-up"),
+        quick_end::State::Idle => append(out, said, b"idle"),
+        quick_end::State::Sent => append(out, said, b"sent"),
+        quick_end::State::Half => append(out, said, b"half"),
+        quick_end::State::Open => append(out, said, b"open"),
+        quick_end::State::GivenUp => append(out, said, b"given-up"),
     }
 }
 
@@ -107,11 +107,11 @@ fn nonces(own: Own, got: &[u8], out: &mut [u8], said: usize) -> usize {
     let mine = front(&own.nonce, own.noncesize as usize);
     match role {
         Role::Initiator => {
-            let theirs = shapes::nonce(Role::Responder, got, got);
+            let theirs = quick_shape::nonce(Role::Responder, got, got);
             nonces_in_order(mine, theirs, out, said)
         }
         Role::Responder => {
-            let theirs = shapes::nonce(Role::Initiator, got, got);
+            let theirs = quick_shape::nonce(Role::Initiator, got, got);
             nonces_in_order(theirs, mine, out, said)
         }
     }
@@ -158,7 +158,7 @@ pub(crate) fn nonce(line: &[u8], bytes: &mut [u8], out: &mut [u8], said: usize) 
         return say::bad_line(out, said);
     };
     let both = front(bytes, end);
-    let nonce = shapes::nonce(role, front(both, middle), after(both, middle));
+    let nonce = quick_shape::nonce(role, front(both, middle), after(both, middle));
     let said = append(out, said, b"nonce ");
     say::word(out, said, nonce)
 }

@@ -21,11 +21,11 @@ use crate::seats::seat_of;
 use crate::seats::seated;
 use crate::seats::size;
 use crate::words;
-use ends::Role;
-use steps::StepAnswer;
-use steps::Stepped;
-use wire::after;
-use wire::front;
+use quick_end::Role;
+use quick_step::StepAnswer;
+use quick_step::Stepped;
+use wire_read::after;
+use wire_read::front;
 ghost use mathlib.Core.Path.{_≡_};
 ghost use lib.ListN.{length};
 
@@ -93,7 +93,7 @@ fn begun(
     let end = seat.end;
     let to = size(room.sent);
     let width = size(room.output);
-    begin::begin(
+    quick_begin::begin(
         end,
         id,
         first,
@@ -173,7 +173,7 @@ fn delivered(
     let to = from + size(room.sent);
     let until = from + size(room.got);
     let width = size(room.output);
-    deliver::deliver(
+    quick_deliver::deliver(
         end,
         holds,
         m,
@@ -203,7 +203,7 @@ fn ticked(role: Role, seat: Seat, sent: &[u8], got: &[u8], output: &mut [u8]) ->
     let room = seat.room;
     let end = seat.end;
     let width = size(room.output);
-    tick::tick(
+    quick_tick::tick(
         end,
         lent(role, room.sent, sent),
         lent(role, room.got, got),

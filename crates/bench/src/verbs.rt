@@ -16,9 +16,9 @@ use crate::seats::Seats;
 use crate::showing;
 use crate::stepping;
 use crate::words;
-use sequence::table::Table;
-use wire::byte;
-use wire::equal;
+use sequence_table::table::Table;
+use wire_read::byte;
+use wire_read::equal;
 
 // A line is at most so many bytes long, without its line end.
 const LONGEST: usize = 65535;

@@ -1,7 +1,7 @@
 // The words of a line, which single spaces part. Spaces that are doubled, or stand at an end, make an empty word, which
 // counts as a word and which nothing reads: neither a verb nor bytes are empty.
-use wire::after;
-use wire::front;
+use wire_read::after;
+use wire_read::front;
 ghost use mathlib.Core.Path.{_≡_};
 ghost use Prim.Native.Nat.{ℕ, _≤_, _<_, min};
 ghost use lib.ListN.{length, getD};

@@ -7,7 +7,7 @@ use native.Mathlib.Omega.{arith}
 use lib.ListN.{length, drop, length-drop}
 use lib.Dec.{ltb, eqb}
 use borrow.Author.Tests.{ne-eqb, eq-eqb, eqb-true, eqb-false, ltb-false}
-use Rattle.wire.proofs.Tests.{neither, by-test}
+use Rattle.wire_read.proofs.Tests.{neither, by-test}
 use Rattle.der.specs.Der.{tagWrong, constructed, headSize, bodySize, contents, size, list, filled, element}
 
 -- an element does not run past the end

@@ -8,8 +8,8 @@ use lib.ListN.{length, getD, take, drop, length-drop}
 use lib.Seq.{drop-drop}
 use lib.Dec.{ltb, leb, eqb}
 use borrow.Author.Tests.{lt-ltb, le-ltb, ne-eqb, eq-eqb}
-use Rattle.wire.specs.Wire.{numberAt}
-use Rattle.wire.specs.Tests.{if_then_else_}
+use Rattle.wire_read.specs.Wire.{numberAt}
+use Rattle.wire_read.specs.Tests.{if_then_else_}
 use Rattle.der.specs.Der.{tagWrong, constructed, headSize, bodySize, contents, size, filled, element}
 use Rattle.der.proofs.Laws.{element-fits, filled-none, filled-step}
 

@@ -4,8 +4,8 @@ use mathlib.Core.List.{List}
 use mathlib.Core.Bool.{Bool, not, _||_, _&&_}
 use lib.ListN.{length, getD, take, drop}
 use lib.Dec.{ltb, leb, eqb}
-use Rattle.wire.specs.Wire.{numberAt}
-use Rattle.wire.specs.Tests.{if_then_else_}
+use Rattle.wire_read.specs.Wire.{numberAt}
+use Rattle.wire_read.specs.Tests.{if_then_else_}
 
 -- "tag with low five bits not 31"
 unfoldable pub tagWrong : List ℕ → Bool

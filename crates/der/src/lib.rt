@@ -1,9 +1,9 @@
 // One DER element: a tag, a length in its shortest form, and contents, which in a constructed element are a list of elements.
 // The element check calls the list check and back; the levels that are left bound how deep, and the list goes by a loop.
-use wire::after;
-use wire::be16;
-use wire::byte;
-use wire::front;
+use wire_read::after;
+use wire_read::be16;
+use wire_read::byte;
+use wire_read::front;
 ghost use mathlib.Core.Path.{_≡_};
 ghost use Rattle.der.specs.Der.{tagWrong, constructed, headSize, bodySize, size, filled, element, isElement, isName};
 

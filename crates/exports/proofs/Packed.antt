@@ -2,16 +2,16 @@
 use Prim.Native.Nat.{ℕ, _+_, _*_, _<_}
 use mathlib.Core.Path.{_≡_, refl, ap, ap₂}
 use native.Mathlib.Omega.{arith}
-use Rattle.message.specs.declared.Message.{Message}
-use Rattle.message.specs.declared.Message.the-variants.{Refused, Read}
-use Rattle.fields.specs.declared.ProposalNumber.{ProposalNumber}
-use Rattle.fields.specs.declared.TransformNumber.{TransformNumber}
-use Rattle.policy.specs.declared.LineNumber.{LineNumber}
-use Rattle.policy.specs.declared.Transforms.the-variants.{One, Two}
-use Rattle.policy.specs.declared.Choice.{Choice}
-use Rattle.policy.specs.declared.Choice.the-variants as choices
-use Rattle.receive.specs.declared.Verdict.{Verdict}
-use Rattle.receive.specs.declared.Verdict.the-variants as Verdicts
+use Rattle.message_chain.specs.declared.Message.{Message}
+use Rattle.message_chain.specs.declared.Message.the-variants.{Refused, Read}
+use Rattle.sa_fields.specs.declared.ProposalNumber.{ProposalNumber}
+use Rattle.sa_fields.specs.declared.TransformNumber.{TransformNumber}
+use Rattle.policy_choice.specs.declared.LineNumber.{LineNumber}
+use Rattle.policy_choice.specs.declared.Transforms.the-variants.{One, Two}
+use Rattle.policy_choice.specs.declared.Choice.{Choice}
+use Rattle.policy_choice.specs.declared.Choice.the-variants as choices
+use Rattle.sequence_record.specs.declared.Verdict.{Verdict}
+use Rattle.sequence_record.specs.declared.Verdict.the-variants as Verdicts
 use Rattle.exports.specs.Exports.{packed, choicePacked, verdictPacked}
 
 -- what the types of the answer's parts say of it

@@ -1,15 +1,15 @@
 -- An answer as one number, for callers in other languages.
 use Prim.Native.Nat.{ℕ, _+_, _*_}
 use mathlib.Core.List.{List}
-use Rattle.message.specs.declared.Message.{Message}
-use Rattle.message.specs.declared.Message.the-variants.{Refused, Read}
-use Rattle.policy.specs.declared.Choice.{Choice}
-use Rattle.policy.specs.declared.Choice.the-variants as choices
-use Rattle.policy.specs.declared.Transforms.the-variants.{One, Two}
-use Rattle.receive.specs.declared.Receive.{Receive}
-use Rattle.receive.specs.declared.Judged.{Judged}
-use Rattle.receive.specs.declared.Verdict.{Verdict}
-use Rattle.receive.specs.declared.Verdict.the-variants as Verdicts
+use Rattle.message_chain.specs.declared.Message.{Message}
+use Rattle.message_chain.specs.declared.Message.the-variants.{Refused, Read}
+use Rattle.policy_choice.specs.declared.Choice.{Choice}
+use Rattle.policy_choice.specs.declared.Choice.the-variants as choices
+use Rattle.policy_choice.specs.declared.Transforms.the-variants.{One, Two}
+use Rattle.sequence_record.specs.declared.Receive.{Receive}
+use Rattle.sequence_record.specs.declared.Judged.{Judged}
+use Rattle.sequence_record.specs.declared.Verdict.{Verdict}
+use Rattle.sequence_record.specs.declared.Verdict.the-variants as Verdicts
 
 -- a refusal is its number, below 65,536; a readable message is a 1, its exchange and its count, as bytes from the high one down
 unfoldable pub packed : Message → ℕ

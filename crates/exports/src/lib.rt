@@ -1,19 +1,19 @@
 // The functions that another language calls: thin, on bytes and numbers; an answer of several parts is packed in one number.
-use fields::ProposalNumber;
-use message::Message;
-use policy::Choice;
-use policy::LineNumber;
-use policy::Transforms;
-use receive::Receive;
-use receive::Verdict;
-use receive::step_in_place;
-use sequence::table::Table;
+use sa_fields::ProposalNumber;
+use message_chain::Message;
+use policy_choice::Choice;
+use policy_choice::LineNumber;
+use policy_choice::Transforms;
+use sequence_record::Receive;
+use sequence_record::Verdict;
+use sequence_record::step_in_place;
+use sequence_table::table::Table;
 ghost use mathlib.Core.Path.{_≡_};
-ghost use Rattle.message.specs.Message.{message};
-ghost use Rattle.policy.specs.Choice.{choice};
-ghost use Rattle.policy.specs.declared.Choice.the-variants.{Chosen};
-ghost use Rattle.receive.specs.Receive.{judged};
-ghost use Rattle.sequence.specs.Table.{packet};
+ghost use Rattle.message_chain.specs.Message.{message};
+ghost use Rattle.policy_choice.specs.Choice.{choice};
+ghost use Rattle.policy_choice.specs.declared.Choice.the-variants.{Chosen};
+ghost use Rattle.sequence_record.specs.Receive.{judged};
+ghost use Rattle.sequence_table.specs.Table.{packet};
 ghost use Rattle.exports.specs.Exports.{packed, choicePacked, verdictPacked, judgedPacked, packetPacked};
 
 // Reads a message: the refusal number, or 65,536 + 256 times the exchange + the count of payloads.
@@ -21,7 +21,7 @@ ghost use Rattle.exports.specs.Exports.{packed, choicePacked, verdictPac
 pub extern "C" fn tallowbrim_read(m: &[u8]) -> u32
     ensures { λ r. ⌜ r ≡ packed (message (now (m .entry))) ⌝ }
 {
-    let answer = message::read(m);
+    let answer = message_chain::read(m);
     match answer {
         Message::Refused(number) => number as u32,
         Message::Read { exchange, count } => 65536 + 256 * exchange as u32 + count as u32,
@@ -44,7 +44,7 @@ fn chosen_packed(set: ProposalNumber, line: LineNumber, transforms: Transforms) 
 pub extern "C" fn tallowbrim_choose(book: &[u8], m: &[u8]) -> u64
     ensures { λ r. ⌜ r ≡ choicePacked (choice (now (book .entry)) (now (m .entry))) ⌝ }
 {
-    let answer = policy::choose::choose(book, m);
+    let answer = policy_choice::choose::choose(book, m);
     match answer {
         Choice::Refused(number) => number as u64,
         Choice::Chosen(set, line, transforms) => chosen_packed(set, line, transforms),
@@ -72,7 +72,7 @@ pub extern "C" fn tallowbrim_packet(
 ) -> u32
     ensures { λ r. ⌜ packetPacked (packet (now (table .entry)) destination protocol integrity (now (s .entry))) ≡ (r, now (table .exit)) ⌝ }
 {
-    let verdict = sequence::table::packet(table, destination, protocol, integrity, s);
+    let verdict = sequence_table::table::packet(table, destination, protocol, integrity, s);
     verdict_packed(verdict)
 }
 

@@ -4,8 +4,8 @@ use mathlib.Core.List.{List}
 use mathlib.Core.Bool.{Bool, false, _||_, _&&_}
 use lib.ListN.{length, getD, drop}
 use lib.Dec.{leb, eqb}
-use Rattle.wire.specs.Wire.{numberAt}
-use Rattle.wire.specs.Tests.{if_then_else_}
+use Rattle.wire_read.specs.Wire.{numberAt}
+use Rattle.wire_read.specs.Tests.{if_then_else_}
 use Rattle.der.specs.Der.{isElement, isName}
 
 abbrev pub oneTo255 : ℕ → Bool

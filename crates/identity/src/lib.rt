@@ -1,9 +1,9 @@
 // The body of an identification payload: type, protocol, port, data.
 use der::is_element;
 use der::is_name;
-use wire::after;
-use wire::be16;
-use wire::byte;
+use wire_read::after;
+use wire_read::be16;
+use wire_read::byte;
 ghost use mathlib.Core.Path.{_≡_};
 ghost use Rattle.identity.specs.Identity.{oneTo255, mainData, quickData, portZero, lawful, identityCode};
 

@@ -6,7 +6,7 @@ use mathlib.Core.Bool.{Bool, true, false}
 use lib.ListN.{length, take, drop}
 use lib.Seq.{drop-length}
 use borrow.Author.Tests.{lt-ltb, le-ltb}
-use Rattle.wire.specs.Wire.{equal}
+use Rattle.wire_read.specs.Wire.{equal}
 use Rattle.port4500.specs.Port.{marker, datagram, handedOn}
 use Rattle.port4500.specs.declared.Datagram.{Datagram}
 use Rattle.port4500.specs.declared.Datagram.the-variants.{Keepalive, KeyExchange, Esp, Refused}

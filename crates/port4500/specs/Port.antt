@@ -3,9 +3,9 @@ use Prim.Native.Nat.{ℕ, _-_}
 use mathlib.Core.List.{List, [], _∷_}
 use lib.ListN.{length, take, drop}
 use lib.Dec.{ltb}
-use Rattle.wire.specs.Wire.{equal}
-use Rattle.wire.specs.Tests.{if_then_else_}
-use Rattle.wire.specs.Answer.{Answer, done, refused}
+use Rattle.wire_read.specs.Wire.{equal}
+use Rattle.wire_read.specs.Tests.{if_then_else_}
+use Rattle.wire_read.specs.Answer.{Answer, done, refused}
 use Rattle.port4500.specs.declared.Datagram.{Datagram}
 use Rattle.port4500.specs.declared.Datagram.the-variants.{Keepalive, KeyExchange, Esp, Refused}
 

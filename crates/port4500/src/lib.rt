@@ -1,7 +1,7 @@
 // Telling apart what arrives at port 4500: keepalives, key exchange messages behind their marker, and ESP packets.
-use wire::after;
-use wire::equal;
-use wire::front;
+use wire_read::after;
+use wire_read::equal;
+use wire_read::front;
 ghost use mathlib.Core.Path.{_≡_};
 ghost use Rattle.port4500.specs.Port.{datagram, handedOn};
 

@@ -10,27 +10,27 @@ use native.Mathlib.Omega.{arith}
 use lib.ListN.{length, getD}
 use lib.Dec.{eqb}
 use borrow.Author.Tests.{ne-eqb}
-use Rattle.wire.specs.Tests.{if_then_else_}
-use Rattle.wire.specs.Answer.{Answer}
-use Rattle.wire.proofs.Tests.{never, clash}
-use Rattle.message.specs.Message.{message}
-use Rattle.message.specs.declared.Message.the-variants as read
-use Rattle.fields.specs.Fields.{transformCount}
-use Rattle.sets.specs.Sets.{set, setCount}
-use Rattle.items.specs.Items.{proposal}
-use Rattle.book.specs.Book.{bookRead, answer as bookAnswer}
-use Rattle.suits.specs.Suits.{transformSuits, lowest, setSuits}
-use Rattle.policy.specs.Choice.{lineCount, chosen, chooseFrom, saFrom, messageChoice, bookChoice, choice, answer}
-use Rattle.reply.specs.Reply.{answer as replyAnswer}
-use Rattle.book.specs.declared.Book.{Book}
-use Rattle.book.specs.declared.Book.the-variants as books
-use Rattle.policy.specs.declared.Transforms.the-variants.{One, Two}
-use Rattle.policy.specs.declared.Choice.{Choice}
-use Rattle.policy.specs.declared.Choice.the-variants.{Refused, Chosen}
-use Rattle.reply.specs.declared.Outcome.{Outcome}
-use Rattle.reply.specs.declared.Outcome.the-variants as replies
+use Rattle.wire_read.specs.Tests.{if_then_else_}
+use Rattle.wire_read.specs.Answer.{Answer}
+use Rattle.wire_read.proofs.Tests.{never, clash}
+use Rattle.message_chain.specs.Message.{message}
+use Rattle.message_chain.specs.declared.Message.the-variants as read
+use Rattle.sa_fields.specs.Fields.{transformCount}
+use Rattle.sa_sets.specs.Sets.{set, setCount}
+use Rattle.sa_items.specs.Items.{proposal}
+use Rattle.policy_book.specs.Book.{bookRead, answer as bookAnswer}
+use Rattle.policy_suits.specs.Suits.{transformSuits, lowest, setSuits}
+use Rattle.policy_choice.specs.Choice.{lineCount, chosen, chooseFrom, saFrom, messageChoice, bookChoice, choice, answer}
+use Rattle.policy_reply.specs.Reply.{answer as replyAnswer}
+use Rattle.policy_book.specs.declared.Book.{Book}
+use Rattle.policy_book.specs.declared.Book.the-variants as books
+use Rattle.policy_choice.specs.declared.Transforms.the-variants.{One, Two}
+use Rattle.policy_choice.specs.declared.Choice.{Choice}
+use Rattle.policy_choice.specs.declared.Choice.the-variants.{Refused, Chosen}
+use Rattle.policy_reply.specs.declared.Outcome.{Outcome}
+use Rattle.policy_reply.specs.declared.Outcome.the-variants as replies
 use Rattle.promises.specs.SequenceAnswers.{parts}
-use Rattle.policy.proofs.Laws.{First, lowest-is, NoLine, Choosing, fourteen, chose, choosing, Suits, suits-says, says-suits}
+use Rattle.policy_choice.proofs.Laws.{First, lowest-is, NoLine, Choosing, fourteen, chose, choosing, Suits, suits-says, says-suits}
 
 -- a lawful book, and a message that reads and has an SA payload
 pub record Offer (book m : List ℕ) : Type 0 where

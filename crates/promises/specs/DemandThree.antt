@@ -5,17 +5,17 @@ use mathlib.Core.Path.{_≡_, ap, _∙_}
 use mathlib.Core.Logic.{_⊎_}
 use mathlib.Core.List.{List, [], _∷_}
 use lib.ListN.{length}
-use Rattle.writing.specs.Messages.{nonceOf}
-use Rattle.shapes.specs.Shapes.{nonce}
-use Rattle.ends.specs.declared.Role.the-variants.{Initiator, Responder}
-use Rattle.ends.specs.declared.State.the-variants.{Half, Open, GivenUp}
-use Rattle.steps.specs.declared.StepAnswer.the-variants.{Send, Refused}
-use Rattle.exchange.specs.Exchange.{begin, called, World, atFirst, atSecond, step, Fair, Run, Fresh, stateOf, sentOf, gotOf, Same, Only, Then, Beginning, beginCall, afterBegin, Suits, oneOf, twoOf, threeOf, Arrives, delivery}
-use Rattle.exchange.specs.ExchangeFresh.{fresh-fit}
-use Rattle.exchange.specs.ExchangeMoves.{begin-shut}
-use Rattle.exchange.specs.ExchangeSafety.{always, open-both, same-both}
-use Rattle.exchange.specs.ExchangeLiveness as liveness
-use Rattle.exchange.specs.ExchangeExample.{reached}
+use Rattle.quick_write.specs.Messages.{nonceOf}
+use Rattle.quick_shape.specs.Shapes.{nonce}
+use Rattle.quick_end.specs.declared.Role.the-variants.{Initiator, Responder}
+use Rattle.quick_end.specs.declared.State.the-variants.{Half, Open, GivenUp}
+use Rattle.quick_step.specs.declared.StepAnswer.the-variants.{Send, Refused}
+use Rattle.quick_exchange.specs.Exchange.{begin, called, World, atFirst, atSecond, step, Fair, Run, Fresh, stateOf, sentOf, gotOf, Same, Only, Then, Beginning, beginCall, afterBegin, Suits, oneOf, twoOf, threeOf, Arrives, delivery}
+use Rattle.quick_exchange.proofs.Fresh.{fresh-fit}
+use Rattle.quick_exchange.proofs.Moves.{begin-shut}
+use Rattle.quick_exchange.proofs.Safety.{always, open-both, same-both}
+use Rattle.quick_exchange.proofs.Liveness as liveness
+use Rattle.quick_exchange.proofs.Example.{reached}
 
 -- "An open end stays open with the same values": its record and its kept buffers stay as they are.
 pub open-stays : {u z : World} → Run u z → (stateOf (u .initiator) ≡ Open → z .initiator ≡ u .initiator) × (stateOf (u .responder) ≡ Open → z .responder ≡ u .responder)

@@ -3,33 +3,33 @@ use mathlib.Core.Path.{_≡_, refl}
 use mathlib.Core.List.{List, [], _∷_, map}
 use mathlib.Core.Bool.{true, false}
 use lib.ListN.{length, set}
-use Rattle.wire.specs.Wire.{numberAt, allZero}
-use Rattle.wire.specs.Parts as parts
-use Rattle.put.specs.Put.{bytesOf, head, headed, paste}
-use Rattle.wire.specs.Answer.{Answer, told, done, refused}
+use Rattle.wire_read.specs.Wire.{numberAt, allZero}
+use Rattle.wire_read.specs.Parts as parts
+use Rattle.wire_write.specs.Put.{bytesOf, head, headed, paste}
+use Rattle.wire_read.specs.Answer.{Answer, told, done, refused}
 use Rattle.der.specs.Der.{tagWrong, constructed, headSize, bodySize, contents, size, list, filled, element, isElement, isName}
-use Rattle.attribute.specs.Attributes as attributes
-use Rattle.coding.specs.Coding as coding
-use Rattle.transforms.specs.Transforms as transforms
-use Rattle.offer.specs.Proposals as proposals
-use Rattle.header.specs.Header as header
-use Rattle.payload.specs.Payloads as payloads
-use Rattle.message.specs.Message as message
+use Rattle.sa_attribute.specs.Attributes as attributes
+use Rattle.sa_coding.specs.Coding as coding
+use Rattle.sa_transforms.specs.Transforms as transforms
+use Rattle.sa_proposals.specs.Proposals as proposals
+use Rattle.message_header.specs.Header as header
+use Rattle.message_payload.specs.Payloads as payloads
+use Rattle.message_chain.specs.Message as message
 use Rattle.promises.specs.Messages.{example, both, mainBook, quickBook}
-use Rattle.fields.specs.Fields as fields
-use Rattle.items.specs.Items as items
-use Rattle.sets.specs.Sets as sets
-use Rattle.booklines.specs.Lines as lines
-use Rattle.book.specs.Book as books
-use Rattle.suits.specs.Suits as suits
-use Rattle.policy.specs.Choice as choices
-use Rattle.promises.specs.History.{packetsOf, lastOf, lossOf, answered, answeredAll}
-use Rattle.writing.specs.Messages as messages
-use Rattle.ends.specs.Fresh as fresh
-use Rattle.ends.specs.declared.Role.the-variants.{Initiator}
-use Rattle.receive.specs.Receive as receive
-use Rattle.packets.specs.Packets as packets
-use Rattle.sequence.specs.Table as tables
+use Rattle.sa_fields.specs.Fields as fields
+use Rattle.sa_items.specs.Items as items
+use Rattle.sa_sets.specs.Sets as sets
+use Rattle.policy_lines.specs.Lines as lines
+use Rattle.policy_book.specs.Book as books
+use Rattle.policy_suits.specs.Suits as suits
+use Rattle.policy_choice.specs.Choice as choices
+use Rattle.sequence_history.specs.History.{packetsOf, lastOf, lossOf, answered, answeredAll}
+use Rattle.quick_write.specs.Messages as messages
+use Rattle.quick_end.specs.Fresh as fresh
+use Rattle.quick_end.specs.declared.Role.the-variants.{Initiator}
+use Rattle.sequence_record.specs.Receive as receive
+use Rattle.sequence_packet.specs.Packets as packets
+use Rattle.sequence_table.specs.Table as tables
 use lib.Count.{ones}
 
 pub record Example : Type 0 where

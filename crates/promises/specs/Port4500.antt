@@ -5,11 +5,11 @@ use mathlib.Core.List.{List, [], _∷_, _++_}
 use mathlib.Core.Bool.{Bool, true, false}
 use lib.ListN.{length, getD, take, drop, take-append-drop, length-drop}
 use lib.Dec.{ltb, eqb}
-use Rattle.wire.specs.Wire.{equal}
-use Rattle.wire.specs.Tests.{if_then_else_}
-use Rattle.wire.specs.Answer.{Answer}
-use Rattle.wire.proofs.Tests.{never}
-use Rattle.wire.proofs.Laws.{equal-true}
+use Rattle.wire_read.specs.Wire.{equal}
+use Rattle.wire_read.specs.Tests.{if_then_else_}
+use Rattle.wire_read.specs.Answer.{Answer}
+use Rattle.wire_read.proofs.Tests.{never}
+use Rattle.wire_read.proofs.Laws.{equal-true}
 use Rattle.port4500.specs.Port.{marker, datagram, handedOn, answer}
 use Rattle.port4500.specs.declared.Datagram.{Datagram}
 use Rattle.port4500.specs.declared.Datagram.the-variants.{Keepalive, KeyExchange, Esp, Refused}

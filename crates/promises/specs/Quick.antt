@@ -6,26 +6,26 @@ use mathlib.Core.List.{List}
 use mathlib.Core.Bool.{Bool, not, _||_}
 use lib.ListN.{length, getD}
 use lib.Dec.{eqb}
-use Rattle.wire.specs.Tests.{if_then_else_}
-use Rattle.wire.specs.Answer.{Answer}
-use Rattle.wire.proofs.Tests.{never, by-test}
-use Rattle.policy.specs.declared.Choice.{Choice}
-use Rattle.policy.specs.declared.Choice.the-variants as choices
-use Rattle.ends.specs.Fresh.{isInitiator}
-use Rattle.shapes.specs.Shapes.{isLonger, alike, shapeOf}
-use Rattle.taken.specs.Taken.{takenCode}
-use Rattle.steps.specs.Steps.{After, kept, refusing, answer}
-use Rattle.begin.specs.Begin.{begun}
-use Rattle.tick.specs.Tick.{ticked}
-use Rattle.deliver.specs.Deliver.{opened, atInitiator, halfway, afterChoice, atResponder, delivered}
-use Rattle.ends.specs.declared.End.{End}
-use Rattle.ends.specs.declared.State.{State}
-use Rattle.ends.specs.declared.State.the-variants.{Idle, Sent, Half, Open, GivenUp}
-use Rattle.steps.specs.declared.StepAnswer.{StepAnswer}
-use Rattle.steps.specs.declared.StepAnswer.the-variants.{Send, Nothing, Refused}
-use Rattle.exchange.specs.Exchange.{Party, World, Run, Fresh}
-use Rattle.exchange.specs.ExchangeMoves.{by-begin, by-tick, by-delivery}
-use Rattle.exchange.specs.ExchangeWritten.{AllReadable, all-readable}
+use Rattle.wire_read.specs.Tests.{if_then_else_}
+use Rattle.wire_read.specs.Answer.{Answer}
+use Rattle.wire_read.proofs.Tests.{never, by-test}
+use Rattle.policy_choice.specs.declared.Choice.{Choice}
+use Rattle.policy_choice.specs.declared.Choice.the-variants as choices
+use Rattle.quick_end.specs.Fresh.{isInitiator}
+use Rattle.quick_shape.specs.Shapes.{isLonger, alike, shapeOf}
+use Rattle.quick_taken.specs.Taken.{takenCode}
+use Rattle.quick_step.specs.Steps.{After, kept, refusing, answer}
+use Rattle.quick_begin.specs.Begin.{begun}
+use Rattle.quick_tick.specs.Tick.{ticked}
+use Rattle.quick_deliver.specs.Deliver.{opened, atInitiator, halfway, afterChoice, atResponder, delivered}
+use Rattle.quick_end.specs.declared.End.{End}
+use Rattle.quick_end.specs.declared.State.{State}
+use Rattle.quick_end.specs.declared.State.the-variants.{Idle, Sent, Half, Open, GivenUp}
+use Rattle.quick_step.specs.declared.StepAnswer.{StepAnswer}
+use Rattle.quick_step.specs.declared.StepAnswer.the-variants.{Send, Nothing, Refused}
+use Rattle.quick_exchange.specs.Exchange.{Party, World, Run, Fresh}
+use Rattle.quick_exchange.proofs.Moves.{by-begin, by-tick, by-delivery}
+use Rattle.quick_exchange.proofs.Written.{AllReadable, all-readable}
 
 module _ (end : End) (sent got output : List ℕ) where
   -- what a call leaves: where it is a refusal, all is as it was

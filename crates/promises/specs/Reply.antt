@@ -11,34 +11,34 @@ use lib.ListN.{length, getD, take, drop, length-drop, length-append, List·getD-
 use lib.Seq.{length-take-le, take-at, drop-at, take-add, drop-drop, getD-drop}
 use lib.Dec.{eqb}
 use borrow.Author.Tests.{eq-eqb, ne-eqb, le-ltb}
-use Rattle.wire.specs.Wire.{numberAt}
-use Rattle.put.specs.Put.{bytesOf}
-use Rattle.wire.proofs.Tests.{by-test, passed}
-use Rattle.wire.proofs.Laws.{number-drop, number-take, number-append, number-append-add}
-use Rattle.put.proofs.Laws.{length-bytesOf, number-bytesOf, paste-inside, drop-paste}
-use Rattle.header.specs.Header.{exchangeOf, flagsOf, firstPayload, lengthWrong, majorWrong, minorWrong, exchangeRefused, exchangeUnknown, flagsWrong, cookieWrong, messageIdWrong, flaggedLengthWrong, noPayload, headerCode}
-use Rattle.header.proofs.Laws as headers
-use Rattle.message.specs.Message.{message}
-use Rattle.message.specs.declared.Message.the-variants.{Read}
-use Rattle.message.proofs.Laws.{reading-header, read-as, one-sa-reads}
-use Rattle.offer.specs.Proposals.{offerCode}
-use Rattle.fields.specs.Fields.{proposalNumber, protocol, spi, transformCount, transformNumber}
-use Rattle.sets.specs.Sets.{set, setCount, setNumbered}
-use Rattle.items.specs.Items.{proposal, proposalCount, transform}
-use Rattle.fields.specs.declared.ProposalNumber.{ProposalNumber}
-use Rattle.fields.specs.declared.TransformNumber.{TransformNumber}
-use Rattle.suits.specs.Suits.{lowest, protocolsSuit}
-use Rattle.policy.specs.Choice.{numberOf, transformsOf, saFrom, choice}
-use Rattle.reply.specs.Reply.{ownSpi, saOf, setReply, spisLow, replied}
-use Rattle.policy.specs.declared.LineNumber.{LineNumber}
-use Rattle.policy.specs.declared.Transforms.{Transforms}
-use Rattle.policy.specs.declared.Transforms.the-variants.{One, Two}
-use Rattle.policy.specs.declared.Choice.the-variants.{Chosen}
-use Rattle.reply.specs.declared.Outcome.{Outcome}
-use Rattle.reply.specs.declared.Outcome.the-variants.{Written}
-use Rattle.policy.proofs.SuitLaws.{Known, isakmp, ah-of, esp-of, known-of, chosenIn, taken, shape}
-use Rattle.policy.proofs.ChoiceLaws.{Chose, chose-says, sa-in-front}
-use Rattle.reply.proofs.ReplyLaws.{Repeats, choice-repeats, choice-short, choice-written, sa-lies, sa-long, sa-begins}
+use Rattle.wire_read.specs.Wire.{numberAt}
+use Rattle.wire_write.specs.Put.{bytesOf}
+use Rattle.wire_read.proofs.Tests.{by-test, passed}
+use Rattle.wire_read.proofs.Laws.{number-drop, number-take, number-append, number-append-add}
+use Rattle.wire_write.proofs.Laws.{length-bytesOf, number-bytesOf, paste-inside, drop-paste}
+use Rattle.message_header.specs.Header.{exchangeOf, flagsOf, firstPayload, lengthWrong, majorWrong, minorWrong, exchangeRefused, exchangeUnknown, flagsWrong, cookieWrong, messageIdWrong, flaggedLengthWrong, noPayload, headerCode}
+use Rattle.message_header.proofs.Laws as headers
+use Rattle.message_chain.specs.Message.{message}
+use Rattle.message_chain.specs.declared.Message.the-variants.{Read}
+use Rattle.message_chain.proofs.Laws.{reading-header, read-as, one-sa-reads}
+use Rattle.sa_proposals.specs.Proposals.{offerCode}
+use Rattle.sa_fields.specs.Fields.{proposalNumber, protocol, spi, transformCount, transformNumber}
+use Rattle.sa_sets.specs.Sets.{set, setCount, setNumbered}
+use Rattle.sa_items.specs.Items.{proposal, proposalCount, transform}
+use Rattle.sa_fields.specs.declared.ProposalNumber.{ProposalNumber}
+use Rattle.sa_fields.specs.declared.TransformNumber.{TransformNumber}
+use Rattle.policy_suits.specs.Suits.{lowest, protocolsSuit}
+use Rattle.policy_choice.specs.Choice.{numberOf, transformsOf, saFrom, choice}
+use Rattle.policy_reply.specs.Reply.{ownSpi, saOf, setReply, spisLow, replied}
+use Rattle.policy_choice.specs.declared.LineNumber.{LineNumber}
+use Rattle.policy_choice.specs.declared.Transforms.{Transforms}
+use Rattle.policy_choice.specs.declared.Transforms.the-variants.{One, Two}
+use Rattle.policy_choice.specs.declared.Choice.the-variants.{Chosen}
+use Rattle.policy_reply.specs.declared.Outcome.{Outcome}
+use Rattle.policy_reply.specs.declared.Outcome.the-variants.{Written}
+use Rattle.policy_choice.proofs.SuitLaws.{Known, isakmp, ah-of, esp-of, known-of, chosenIn, taken, shape}
+use Rattle.policy_choice.proofs.ChoiceLaws.{Chose, chose-says, sa-in-front}
+use Rattle.policy_reply.proofs.ReplyLaws.{Repeats, choice-repeats, choice-short, choice-written, sa-lies, sa-long, sa-begins}
 
 -- ---- what is promised
 

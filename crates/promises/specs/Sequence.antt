@@ -4,16 +4,16 @@ use mathlib.Core.Path.{_≡_, ap}
 use mathlib.Core.Bool.{Bool, false}
 use mathlib.Core.List.{List, [], _∷_}
 use lib.ListN.{length}
-use Rattle.packets.specs.declared.Packet.the-variants.{Read}
-use Rattle.sequence.specs.declared.table.Key.{Key}
-use Rattle.sequence.specs.declared.table.Outcome.the-variants.{Done}
-use Rattle.receive.specs.Receive.{fresh}
-use Rattle.packets.specs.Packets.{read}
-use Rattle.sequence.specs.Table.{rooms, words, empty, find, entryAt, added}
-use Rattle.wire.specs.Answer.{done}
-use Rattle.promises.specs.History.{Call, shows, sends, asks, isDone, keyOf, accepted, handed, rightNumber, answered, answeredAll, rightAll, Distinct, countdown, isAdding, Carries, tableVerdicts, lentVerdicts}
-use Rattle.promises.specs.SequenceRuns as Runs
-use Rattle.promises.specs.SequenceKeys as Keys
+use Rattle.sequence_packet.specs.declared.Packet.the-variants.{Read}
+use Rattle.sequence_table.specs.declared.table.Key.{Key}
+use Rattle.sequence_table.specs.declared.table.Outcome.the-variants.{Done}
+use Rattle.sequence_record.specs.Receive.{fresh}
+use Rattle.sequence_packet.specs.Packets.{read}
+use Rattle.sequence_table.specs.Table.{rooms, words, empty, find, entryAt, added}
+use Rattle.wire_read.specs.Answer.{done}
+use Rattle.sequence_history.specs.History.{Call, shows, sends, asks, isDone, keyOf, accepted, handed, rightNumber, answered, answeredAll, rightAll, Distinct, countdown, isAdding, Carries, tableVerdicts, lentVerdicts}
+use Rattle.sequence_history.proofs.Runs as Runs
+use Rattle.sequence_history.proofs.Keys as Keys
 
 -- For every sequence of adds, removes, packets, sends and queries from an empty table, every answer is the one worked out afresh from the
 -- list of what came before.

@@ -1,21 +1,21 @@
 -- No two answers of one type have the same number and values.
 use mathlib.Core.Path.{_≡_, refl, ap}
 use lib.ListN.{getD}
-use Rattle.wire.specs.Answer.{Answer}
-use Rattle.wire.proofs.Tests.{never}
-use Rattle.receive.specs.declared.Verdict.{Verdict}
-use Rattle.packets.specs.declared.Packet.{Packet}
-use Rattle.packets.specs.declared.Packet.the-variants.{Read, Refused}
-use Rattle.sequence.specs.declared.table.Outcome.{Outcome}
-use Rattle.sequence.specs.declared.table.Outcome.the-variants as Outcomes
-use Rattle.sequence.specs.declared.table.Sending.{Sending}
-use Rattle.sequence.specs.declared.table.Sending.the-variants as Sendings
-use Rattle.sequence.specs.declared.table.Counted.{Counted}
-use Rattle.sequence.specs.declared.table.Counted.the-variants as Counts
-use Rattle.receive.specs.declared.Verdict.the-variants as Verdicts
-use Rattle.receive.specs.Receive.{answer}
-use Rattle.packets.specs.Packets.{answer as packetAnswer}
-use Rattle.sequence.specs.Table.{outcomeAnswer, sendingAnswer, countedAnswer}
+use Rattle.wire_read.specs.Answer.{Answer}
+use Rattle.wire_read.proofs.Tests.{never}
+use Rattle.sequence_record.specs.declared.Verdict.{Verdict}
+use Rattle.sequence_packet.specs.declared.Packet.{Packet}
+use Rattle.sequence_packet.specs.declared.Packet.the-variants.{Read, Refused}
+use Rattle.sequence_table.specs.declared.table.Outcome.{Outcome}
+use Rattle.sequence_table.specs.declared.table.Outcome.the-variants as Outcomes
+use Rattle.sequence_table.specs.declared.table.Sending.{Sending}
+use Rattle.sequence_table.specs.declared.table.Sending.the-variants as Sendings
+use Rattle.sequence_table.specs.declared.table.Counted.{Counted}
+use Rattle.sequence_table.specs.declared.table.Counted.the-variants as Counts
+use Rattle.sequence_record.specs.declared.Verdict.the-variants as Verdicts
+use Rattle.sequence_record.specs.Receive.{answer}
+use Rattle.sequence_packet.specs.Packets.{answer as packetAnswer}
+use Rattle.sequence_table.specs.Table.{outcomeAnswer, sendingAnswer, countedAnswer}
 
 -- what equal answers share
 pub parts : (a b : Answer) → a ≡ b → (a .number ≡ b .number) × (a .values ≡ b .values)

@@ -7,17 +7,17 @@ use native.Mathlib.Omega.{arith}
 use lib.ListN.{length, getD, drop, length-append, length-map, List·getD-map, take-append-drop}
 use lib.Dec.{eqb}
 use borrow.Author.Tests.{eq-eqb, ne-eqb}
-use Rattle.wire.specs.Wire.{numberAt}
-use Rattle.wire.specs.Tests.{if_then_else_}
-use Rattle.wire.proofs.Tests.{by-test}
-use Rattle.offer.specs.Proposals.{offerCode}
-use Rattle.fields.specs.Fields.{proposalNumber}
-use Rattle.wire.specs.Parts.{skip, parts}
-use Rattle.items.specs.Items.{firstItem, afterItem, proposal, proposalCount}
-use Rattle.sets.specs.Sets.{setEnd, firstSet, afterSet, set, setCount}
-use Rattle.offer.proofs.Laws.{Rising, end, on}
-use Rattle.sets.proofs.Laws.{Same, same-end, same-on, Sets, sets-end, sets-on, Parted, parted, first-item, after-item}
-use Rattle.sets.proofs.Places.{least-at, item-at, same-at}
+use Rattle.wire_read.specs.Wire.{numberAt}
+use Rattle.wire_read.specs.Tests.{if_then_else_}
+use Rattle.wire_read.proofs.Tests.{by-test}
+use Rattle.sa_proposals.specs.Proposals.{offerCode}
+use Rattle.sa_fields.specs.Fields.{proposalNumber}
+use Rattle.wire_read.specs.Parts.{skip, parts}
+use Rattle.sa_items.specs.Items.{firstItem, afterItem, proposal, proposalCount}
+use Rattle.sa_sets.specs.Sets.{setEnd, firstSet, afterSet, set, setCount}
+use Rattle.sa_proposals.proofs.Laws.{Rising, end, on}
+use Rattle.sa_sets.proofs.Laws.{Same, same-end, same-on, Sets, sets-end, sets-on, Parted, parted, first-item, after-item}
+use Rattle.sa_sets.proofs.Places.{least-at, item-at, same-at}
 
 -- ---- what is promised
 

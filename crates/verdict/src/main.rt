@@ -1,12 +1,12 @@
 // Reads a policy book and then a message from standard input, and prints what the message is and what the policy chooses.
 use libc::STDIN_FILENO;
 use libc::STDOUT_FILENO;
-use message::Message;
-use message::Payload;
-use policy::Choice;
-use policy::Transforms;
-use wire::after;
-use wire::front;
+use message_chain::Message;
+use message_chain::Payload;
+use policy_choice::Choice;
+use policy_choice::Transforms;
+use wire_read::after;
+use wire_read::front;
 
 // A byte more than the longest book and the longest message, so that a message that is too long is seen to be.
 const LONGEST: usize = 8275;
@@ -18,14 +18,14 @@ fn main() {
 }
 
 fn verdict(s: &[u8]) {
-    if !book::book_in_front(s) {
+    if !policy_book::book_in_front(s) {
         refused(8193);
         return;
     }
-    let size = booklines::book_size(s) as usize;
+    let size = policy_lines::book_size(s) as usize;
     let book = front(s, size);
     let m = after(s, size);
-    let read = message::read(m);
+    let read = message_chain::read(m);
     match read {
         Message::Refused(number) => refused(number),
         Message::Read { exchange, count } => {
@@ -33,7 +33,7 @@ fn verdict(s: &[u8]) {
             labelled(b" payloads ", count as u64);
             end_line();
             payloads(m, count);
-            choice(policy::choose::choose(book, m));
+            choice(policy_choice::choose::choose(book, m));
         }
     }
 }
@@ -41,7 +41,7 @@ fn verdict(s: &[u8]) {
 fn payloads(m: &[u8], count: u8) {
     let mut k = 0;
     while k < count {
-        payload(message::payload_at(m, k));
+        payload(message_chain::payload_at(m, k));
         k += 1;
     }
 }

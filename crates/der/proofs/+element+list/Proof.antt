@@ -20,8 +20,8 @@ use Rattle.der.proofs.body_size.Reads as body-size-reads
 use Rattle.der.proofs.constructed.Reads as constructed-reads
 use Rattle.der.proofs.head_size.Reads as head-size-reads
 use Rattle.der.proofs.size.Reads as size-reads
-use Rattle.wire.proofs.after.Reads as after-reads
-use Rattle.wire.proofs.front.Reads as front-reads
+use Rattle.wire_read.proofs.after.Reads as after-reads
+use Rattle.wire_read.proofs.front.Reads as front-reads
 use Rattle.der.proofs.+element+list.{statement}
 use Rattle.der.proofs.+element+list.Tie.{close}
 

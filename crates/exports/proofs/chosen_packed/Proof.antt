@@ -2,12 +2,12 @@
 use Prim.Native.Nat.{_+_, _*_}
 use mathlib.Core.Path.{_≡_}
 use borrow.Author.Needs.{needs}
-use Rattle.fields.specs.declared.ProposalNumber.{ProposalNumber}
-use Rattle.fields.specs.declared.TransformNumber.{TransformNumber}
-use Rattle.policy.specs.declared.LineNumber.{LineNumber}
-use Rattle.policy.specs.declared.Transforms.{Transforms}
-use Rattle.policy.specs.declared.Transforms.the-variants.{One, Two}
-use Rattle.policy.specs.declared.Choice.the-variants.{Chosen}
+use Rattle.sa_fields.specs.declared.ProposalNumber.{ProposalNumber}
+use Rattle.sa_fields.specs.declared.TransformNumber.{TransformNumber}
+use Rattle.policy_choice.specs.declared.LineNumber.{LineNumber}
+use Rattle.policy_choice.specs.declared.Transforms.{Transforms}
+use Rattle.policy_choice.specs.declared.Transforms.the-variants.{One, Two}
+use Rattle.policy_choice.specs.declared.Choice.the-variants.{Chosen}
 use Rattle.exports.specs.Exports.{choicePacked}
 use Rattle.exports.proofs.chosen_packed.Statement.{statement}
 use Rattle.exports.proofs.chosen_packed.Tie as tie

@@ -2,11 +2,11 @@
 use Prim.Native.Nat.{ℕ}
 use mathlib.Core.Path.{_≡_, sym, ap, _∙_}
 use borrow.Author.Needs.{needs}
-use Rattle.fields.specs.declared.ProposalNumber.{ProposalNumber}
-use Rattle.policy.specs.declared.LineNumber.{LineNumber}
-use Rattle.policy.specs.declared.Transforms.{Transforms}
-use Rattle.policy.specs.declared.Choice.{Choice}
-use Rattle.policy.specs.declared.Choice.the-variants.{Refused, Chosen}
+use Rattle.sa_fields.specs.declared.ProposalNumber.{ProposalNumber}
+use Rattle.policy_choice.specs.declared.LineNumber.{LineNumber}
+use Rattle.policy_choice.specs.declared.Transforms.{Transforms}
+use Rattle.policy_choice.specs.declared.Choice.{Choice}
+use Rattle.policy_choice.specs.declared.Choice.the-variants.{Refused, Chosen}
 use Rattle.exports.specs.Exports.{choicePacked}
 use Rattle.exports.proofs.tallowbrim_choose.Statement.{statement}
 use Rattle.exports.proofs.tallowbrim_choose.Tie as tie

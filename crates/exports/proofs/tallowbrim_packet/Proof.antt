@@ -3,7 +3,7 @@ use Prim.Native.Nat.{ℕ}
 use mathlib.Core.Path.{_≡_, sym, ap, _∙_}
 use mathlib.Core.List.{List}
 use borrow.Author.Needs.{needs}
-use Rattle.receive.specs.declared.Verdict.{Verdict}
+use Rattle.sequence_record.specs.declared.Verdict.{Verdict}
 use Rattle.exports.specs.Exports.{verdictPacked, packetPacked}
 use Rattle.exports.proofs.tallowbrim_packet.Statement.{statement}
 use Rattle.exports.proofs.tallowbrim_packet.Tie as tie

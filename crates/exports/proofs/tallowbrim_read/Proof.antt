@@ -2,8 +2,8 @@
 use Prim.Native.Nat.{ℕ, _+_, _*_}
 use mathlib.Core.Path.{_≡_, sym, ap, _∙_}
 use borrow.Author.Needs.{needs}
-use Rattle.message.specs.declared.Message.{Message}
-use Rattle.message.specs.declared.Message.the-variants.{Refused, Read}
+use Rattle.message_chain.specs.declared.Message.{Message}
+use Rattle.message_chain.specs.declared.Message.the-variants.{Refused, Read}
 use Rattle.exports.specs.Exports.{packed}
 use Rattle.exports.proofs.tallowbrim_read.Statement.{statement}
 use Rattle.exports.proofs.tallowbrim_read.Tie as tie

@@ -34,17 +34,17 @@ use denote.Triple.Table.{entered, cited}
 use denote.Triple.Walked.{says, Stays, gave-ref, stay-none, walkOf, AllGo, goes-none, goes-gave-ref, Walks, ends-at, walked, walk-meets}
 use denote.Exit.{yes}
 use denote.Triple.Clauses.{ensured, lasts}
-use Rattle.receive.specs.declared.Receive.{Receive}
-use Rattle.receive.specs.declared.Judged.{Judged}
-use Rattle.receive.specs.declared.Verdict.{Verdict}
-use Rattle.receive.specs.Receive.{judged}
-use Rattle.receive.proofs.Receive as T
-use Rattle.receive.proofs.Verdict as E
-use Rattle.receive.proofs.Verdict.Laws as E′
-use Rattle.receive.proofs.step_in_place as place
-use Rattle.receive.proofs.step_in_place.Symbol as place-def
-use Rattle.receive.proofs.step_in_place.Symbol.{name as #place}
-use Rattle.receive.proofs.step_in_place.Met as place-thm
+use Rattle.sequence_record.specs.declared.Receive.{Receive}
+use Rattle.sequence_record.specs.declared.Judged.{Judged}
+use Rattle.sequence_record.specs.declared.Verdict.{Verdict}
+use Rattle.sequence_record.specs.Receive.{judged}
+use Rattle.sequence_record.proofs.Receive as T
+use Rattle.sequence_record.proofs.Verdict as E
+use Rattle.sequence_record.proofs.Verdict.Laws as E′
+use Rattle.sequence_record.proofs.step_in_place as place
+use Rattle.sequence_record.proofs.step_in_place.Symbol as place-def
+use Rattle.sequence_record.proofs.step_in_place.Symbol.{name as #place}
+use Rattle.sequence_record.proofs.step_in_place.Met as place-thm
 use Rattle.exports.specs.Exports.{verdictPacked, judgedPacked}
 use Rattle.exports.proofs.verdict_packed as packing
 use Rattle.exports.proofs.verdict_packed.Symbol as packing-def

@@ -2,8 +2,8 @@
 use Prim.Native.Nat.{ℕ}
 use mathlib.Core.Path.{_≡_, sym, ap}
 use borrow.Author.Needs.{needs}
-use Rattle.receive.specs.declared.Verdict.{Verdict}
-use Rattle.receive.specs.declared.Verdict.the-variants as Verdicts
+use Rattle.sequence_record.specs.declared.Verdict.{Verdict}
+use Rattle.sequence_record.specs.declared.Verdict.the-variants as Verdicts
 use Rattle.exports.specs.Exports.{verdictPacked}
 use Rattle.exports.proofs.verdict_packed.Statement.{statement}
 use Rattle.exports.proofs.verdict_packed.Tie as tie

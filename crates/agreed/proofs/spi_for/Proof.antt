@@ -1,8 +1,0 @@
-use Rattle.agreed.specs.Agreed.{spiFor}
-use borrow.Author.Tests.{eq-eqb, ne-eqb}
-use Rattle.agreed.proofs.spi_for.Statement.{statement}
-use Rattle.agreed.proofs.spi_for.Tie as tie
-
-pub spi-for-spec : {M : Type 1} → statement M
-unfolding spiFor
-spi-for-spec = tie.close (tie.spec (λ c. rw (eq-eqb _ _ (c .if1 .taken))) (λ c. rw (ne-eqb _ _ (c .if1 .left))))

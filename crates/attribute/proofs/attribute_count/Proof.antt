@@ -1,9 +1,0 @@
-use Rattle.attribute.specs.Attributes.{attributeCount}
-use borrow.Author.Needs.{needs}
-use Rattle.attribute.proofs.attribute_count.Statement.{statement}
-use Rattle.attribute.proofs.attribute_count.Tie as tie
-
-pub attribute-count-spec : {M : Type 1} → statement M
-unfolding attributeCount
-attribute-count-spec = tie.close (tie.spec (λ c κs. search needs)
-    (λ c. cc))

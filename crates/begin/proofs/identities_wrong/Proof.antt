@@ -1,8 +1,0 @@
-use Rattle.begin.specs.Begin.{identitiesWrong}
-use borrow.Author.Needs.{needs}
-use Rattle.begin.proofs.identities_wrong.Statement.{statement}
-use Rattle.begin.proofs.identities_wrong.Tie as tie
-
-pub identities-wrong-spec : {M : Type 1} → statement M
-unfolding identitiesWrong
-identities-wrong-spec = tie.close (tie.spec (λ c κs. search needs) (λ c κs. search needs) (λ c. cc))

@@ -1,7 +1,0 @@
-use Rattle.coding.specs.Coding.{mustBeFixed}
-use Rattle.coding.proofs.must_be_fixed.Statement.{statement}
-use Rattle.coding.proofs.must_be_fixed.Tie as tie
-
-pub must-be-fixed-spec : {M : Type 1} → statement M
-unfolding mustBeFixed
-must-be-fixed-spec = tie.close (tie.spec (λ c. cc))

@@ -1,6 +1,0 @@
-use borrow.Author.Needs.{needs}
-use Rattle.deliver.proofs.agreed_one.Statement.{statement}
-use Rattle.deliver.proofs.agreed_one.Tie as tie
-
-pub agreed-one-spec : {M : Type 1} → statement M
-agreed-one-spec = tie.close (tie.spec (λ c κs. search needs) (λ c κs. search needs) (λ c. cc))

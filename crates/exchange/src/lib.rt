@@ -1,1 +1,0 @@
-// No code: specs/ has the exchange of two ends and what is proved of it.

@@ -1,9 +1,0 @@
-use Rattle.fields.specs.Fields.{transformNumber}
-use borrow.Author.Needs.{needs}
-use Rattle.fields.proofs.transform_number.Statement.{statement}
-use Rattle.fields.proofs.transform_number.Tie as tie
-
-pub transform-number-spec : {M : Type 1} → statement M
-unfolding transformNumber
-transform-number-spec = tie.close (tie.spec (λ c κs. search needs)
-    (λ c. cc))

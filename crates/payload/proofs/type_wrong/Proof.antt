@@ -1,7 +1,0 @@
-use Rattle.payload.specs.Payloads.{typeWrong}
-use Rattle.payload.proofs.type_wrong.Statement.{statement}
-use Rattle.payload.proofs.type_wrong.Tie as tie
-
-pub type-wrong-spec : {M : Type 1} → statement M
-unfolding typeWrong
-type-wrong-spec = tie.close (tie.spec (λ c. cc))

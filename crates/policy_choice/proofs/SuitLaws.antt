@@ -1,0 +1,178 @@
+-- A set that suits a line has one proposal, or one for AH and one for ESP, and a transform of it that suits is short: at most 56 bytes.
+use Prim.Native.Nat.{ℕ, _-_, _≤_, _<_}
+use mathlib.Core.Path.{_≡_, refl, ap, _∙_}
+use mathlib.Core.Logic.{_⊎_, inl, inr}
+use mathlib.Core.List.{List, [], _∷_}
+use mathlib.Core.Bool.{Bool, true, false, _||_, _&&_}
+use native.Mathlib.Omega.{arith}
+use lib.ListN.{length, getD, length-drop}
+use lib.Dec.{leb, eqb}
+use borrow.Author.Tests.{eqb-true, leb-true, not-false}
+use Rattle.wire_read.specs.Tests.{if_then_else_}
+use Rattle.wire_read.proofs.Tests.{both, by-test}
+use Rattle.sa_attribute.specs.Attributes.{attribute, attributeCount}
+use Rattle.sa_coding.specs.Coding.{mustBeFixed, isDuration}
+use Rattle.sa_coding.proofs.Laws.{wantedTimes, apart, allShort, allThere, wanted-length}
+use Rattle.sa_proposals.specs.Proposals.{protocolWrong}
+use Rattle.sa_proposals.proofs.Laws.{Item, LawfulTransform}
+use Rattle.sa_fields.specs.Fields.{protocol, transformCount, transformId, attributesOf}
+use Rattle.sa_items.specs.Items.{proposal, proposalCount, transform, transformNumbered}
+use Rattle.sa_sets.proofs.Places.{transform-lawful, transform-by-number}
+use Rattle.policy_lines.specs.Lines.{quickProtocols}
+use Rattle.policy_choice.specs.Choice.{numberOf}
+use Rattle.policy_choice.proofs.Laws.{First, none, here, lowest-is, HasTransform, transform-low}
+use Rattle.policy_suits.specs.Suits.{present, valueIs, lifeWithin, nothingSurplus, mainValues, mainSuits, quickId, quickIntegrity, quickSuits, suitsLine, transformSuits, lowest, protocolsAlone, protocolsBoth, protocolsSuit}
+
+-- ---- a transform that suits is short
+
+value-there : (type wanted : ℕ) (attributes : List ℕ) → valueIs type wanted attributes ≡ true → leb 4 (length (attribute type attributes)) ≡ true
+unfolding valueIs present
+value-there type wanted attributes h = both (present type attributes) _ h .0
+
+life-there : (type longest : ℕ) (attributes : List ℕ) → lifeWithin type longest attributes ≡ true → leb 4 (length (attribute type attributes)) ≡ true
+unfolding lifeWithin present
+life-there type longest attributes h = both (present type attributes) _ (both _ _ h .0) .0
+
+module _ (t : List ℕ) where
+  abbrev attributes : List ℕ
+  attributes = attributesOf t
+
+  main-there : mainValues attributes ≡ true → (seconds : ℕ) → lifeWithin 12 seconds attributes ≡ true → allThere 16 (1 ∷ 2 ∷ 3 ∷ 20 ∷ 11 ∷ 12 ∷ []) attributes ≡ true
+  unfolding mainValues allThere attribute
+  main-there h seconds life =
+      let a = both _ (valueIs 11 1 attributes) h in
+      let b = both _ (valueIs 20 2 attributes) (a .0) in
+      let c = both _ (valueIs 3 10 attributes) (b .0) in
+      let d = both (valueIs 1 129 attributes) (valueIs 2 20 attributes) (c .0) in
+      rw (
+        value-there 1 129 attributes (d .0),
+        value-there 2 20 attributes (d .1),
+        value-there 3 10 attributes (c .1),
+        value-there 20 2 attributes (b .1),
+        value-there 11 1 attributes (a .1),
+        life-there 12 seconds attributes life,
+      )
+
+  count-is : (wanted : ℕ) → nothingSurplus wanted attributes ≡ true → attributeCount attributes ≡ wanted
+  unfolding nothingSurplus
+  count-is wanted h = eqb-true (attributeCount attributes) wanted h
+
+  main-short : (seconds : ℕ) → LawfulTransform 2 t → mainSuits seconds t ≡ true → length t ≤ 56
+  unfolding mainSuits attributesOf apart allShort wantedTimes mustBeFixed isDuration
+  main-short seconds l h =
+      let a = both _ (nothingSurplus 6 attributes) h in
+      let b = both _ (lifeWithin 12 seconds attributes) (a .0) in
+      let c = both (eqb (transformId t) 1) (mainValues attributes) (b .0) in
+      omega (
+        arith,
+        length-drop 8 t,
+        wanted-length 2 (1 ∷ 2 ∷ 3 ∷ 20 ∷ 11 ∷ 12 ∷ []) refl refl attributes (l .attributes) (main-there (c .1) seconds (b .1)) (count-is 6 (a .1)),
+      )
+
+  -- with integrity, and without it where AH goes along
+  quick-there : (mode seconds : ℕ) → valueIs 4 mode attributes ≡ true → valueIs 1 1 attributes ≡ true → lifeWithin 2 seconds attributes ≡ true → allThere 16 (4 ∷ 1 ∷ 2 ∷ []) attributes ≡ true
+  unfolding allThere attribute
+  quick-there mode seconds a b c = rw (value-there 4 mode attributes a, value-there 1 1 attributes b, life-there 2 seconds attributes c)
+
+  with-integrity : allThere 16 (4 ∷ 1 ∷ 2 ∷ []) attributes ≡ true → valueIs 5 20 attributes ≡ true → allThere 16 (5 ∷ 4 ∷ 1 ∷ 2 ∷ []) attributes ≡ true
+  unfolding allThere attribute
+  with-integrity a b = rw (value-there 5 20 attributes b) a
+
+  quick-attributes : (protocols wanted : ℕ) → LawfulTransform 32 t → allThere 16 (4 ∷ 1 ∷ 2 ∷ []) attributes ≡ true → quickIntegrity protocols wanted attributes ≡ true → length attributes ≤ 32
+  unfolding quickIntegrity attributesOf apart allShort wantedTimes mustBeFixed isDuration
+  quick-attributes protocols wanted l there h =
+      by-test (eqb protocols 2 && eqb wanted 3)
+      (λ e. omega (arith, wanted-length 32 (4 ∷ 1 ∷ 2 ∷ []) refl refl attributes (l .attributes) there (count-is 3 (rw e at h))))
+      (λ e.
+      let two = both (valueIs 5 20 attributes) (nothingSurplus 4 attributes) (rw e at h) in
+      omega (arith, wanted-length 32 (5 ∷ 4 ∷ 1 ∷ 2 ∷ []) refl refl attributes (l .attributes) (with-integrity there (two .0)) (count-is 4 (two .1))))
+
+  quick-short : (protocols mode seconds wanted : ℕ) → LawfulTransform 32 t → quickSuits protocols mode seconds wanted t ≡ true → length t ≤ 56
+  unfolding quickSuits attributesOf
+  quick-short protocols mode seconds wanted l h =
+      let a = both _ (quickIntegrity protocols wanted attributes) h in
+      let b = both _ (lifeWithin 2 seconds attributes) (a .0) in
+      let c = both _ (valueIs 1 1 attributes) (b .0) in
+      let d = both (eqb (transformId t) (quickId wanted)) (valueIs 4 mode attributes) (c .0) in
+      omega (arith, length-drop 8 t, quick-attributes protocols wanted l (quick-there mode seconds (d .1) (c .1) (b .1)) (a .1))
+
+-- the exchanges and their protocols
+pub data Known : ℕ → ℕ → Type 0 where
+  isakmp : Known 2 1
+  ah-of : Known 32 2
+  esp-of : Known 32 3
+
+pub known-of : (exchange wanted : ℕ) → protocolWrong exchange wanted ≡ false → Known exchange wanted
+unfolding protocolWrong
+known-of exchange wanted h =
+    by-test (eqb exchange 2 && eqb wanted 1)
+    (λ e. let two = both (eqb exchange 2) (eqb wanted 1) e in rw (eqb-true exchange 2 (two .0), eqb-true wanted 1 (two .1)) isakmp)
+    (λ e.
+    let right : (eqb exchange 32 && (eqb wanted 2 || eqb wanted 3)) ≡ true = not-false _ (rw e at h) in
+    let two = both (eqb exchange 32) (eqb wanted 2 || eqb wanted 3) right in
+    rw (eqb-true exchange 32 (two .0)) (by-test (eqb wanted 2) (λ f. rw (eqb-true wanted 2 f) ah-of) (λ f. rw (eqb-true wanted 3 (rw f at two .1)) esp-of)))
+
+suits-short : {exchange wanted : ℕ} → Known exchange wanted → (i : ℕ) (book p : List ℕ) (k : ℕ) → LawfulTransform exchange (transform k p) → transformSuits exchange i book p k ≡ true → length (transform k p) ≤ 56
+unfolding transformSuits suitsLine
+suits-short isakmp i book p k l h = main-short (transform k p) _ l h
+suits-short ah-of i book p k l h = quick-short (transform k p) _ _ _ _ l h
+suits-short esp-of i book p k l h = quick-short (transform k p) _ _ _ _ l h
+
+-- "a main transform suits .. A quick one": of a proposal that reads, at most 56 bytes
+pub suiting-short : (exchange i : ℕ) (book p : List ℕ) (k : ℕ) → Item exchange p → k < transformCount p → transformSuits exchange i book p k ≡ true → length (transform k p) ≤ 56
+suiting-short exchange i book p k item l h = suits-short (known-of exchange (getD p 5 0) (item .known)) i book p k (transform-lawful exchange p item k l) h
+
+-- ---- what the choice takes
+
+-- "lowest transform in each proposal"
+abbrev pub chosenIn : ℕ → ℕ → List ℕ → List ℕ → List ℕ
+chosenIn exchange i book p = transform (lowest exchange i book p - 1) p
+
+first-taken : {test : ℕ → Bool} {n r : ℕ} → First test n 0 r → 1 ≤ r → (r - 1 < n) × (test (r - 1) ≡ true)
+first-taken (none f) h = absurd (omega arith)
+first-taken {test} (here j a b t f) h = (omega arith, ap test (omega arith) ∙ t)
+
+module _ (exchange i : ℕ) (book p : List ℕ) (item : Item exchange p) (some : HasTransform exchange i book p) where
+  pub taken : (lowest exchange i book p - 1 < transformCount p) × (transformSuits exchange i book p (lowest exchange i book p - 1) ≡ true)
+  taken = first-taken (lowest-is exchange i book p) (leb-true 1 (lowest exchange i book p) (transform-low exchange i book p some))
+
+  pub taken-by-number : transformNumbered (numberOf (lowest exchange i book p) p) p ≡ chosenIn exchange i book p
+  unfolding numberOf
+  taken-by-number = transform-by-number exchange p item (lowest exchange i book p - 1) (taken .0)
+
+-- "its protocols are exactly the line's": one proposal, or one for AH and one for ESP
+pub record Pair (s : List ℕ) : Type 0 where
+  pub two : proposalCount s ≡ 2
+  pub other : protocol (proposal 0 s) ≡ protocol (proposal 1 s) → ⊥
+  pub quick : protocol (proposal 0 s) ≡ 1 → ⊥
+
+module _ (s : List ℕ) where
+  pair : protocolsBoth s ≡ true → Pair s
+  unfolding protocolsBoth
+  pair h =
+      let a : ℕ = protocol (proposal 0 s) in
+      let b : ℕ = protocol (proposal 1 s) in
+      let outer = both (eqb (proposalCount s) 2) (eqb a 2 && eqb b 3 || eqb a 3 && eqb b 2) h in
+      by-test (eqb a 2 && eqb b 3)
+      (λ e. let two = both (eqb a 2) (eqb b 3) e in
+      record { two = eqb-true _ _ (outer .0); other = λ x. omega (arith, eqb-true a 2 (two .0), eqb-true b 3 (two .1)); quick = λ x. omega (arith, eqb-true a 2 (two .0)) })
+      (λ e. let two = both (eqb a 3) (eqb b 2) (rw e at outer .1) in
+      record { two = eqb-true _ _ (outer .0); other = λ x. omega (arith, eqb-true a 3 (two .0), eqb-true b 2 (two .1)); quick = λ x. omega (arith, eqb-true a 3 (two .0)) })
+
+  single : (wanted : ℕ) → protocolsAlone wanted s ≡ true → proposalCount s ≡ 1
+  unfolding protocolsAlone
+  single wanted h = eqb-true (proposalCount s) 1 (both (eqb (proposalCount s) 1) _ h .0)
+
+  one-or-pair : (a b : Bool) → (if a then protocolsAlone 1 s else if b then protocolsAlone 3 s else protocolsBoth s) ≡ true → (proposalCount s ≡ 1) ⊎ Pair s
+  one-or-pair true b h = inl (single 1 h)
+  one-or-pair false true h = inl (single 3 h)
+  one-or-pair false false h = inr (pair h)
+
+  pub shape : (exchange i : ℕ) (book : List ℕ) → protocolsSuit exchange i book s ≡ true → (proposalCount s ≡ 1) ⊎ Pair s
+  unfolding protocolsSuit
+  shape exchange i book h = one-or-pair (eqb exchange 2) (eqb (quickProtocols i book) 1) h
+
+pub known-quick : {exchange wanted : ℕ} → Known exchange wanted → (wanted ≡ 1 → ⊥) → exchange ≡ 32
+known-quick isakmp h = absurd (h refl)
+known-quick ah-of h = refl
+known-quick esp-of h = refl

@@ -1,0 +1,12 @@
+use Rattle.policy_suits.specs.Suits.{protocolsAlone}
+use borrow.Author.Needs.{needs}
+use Rattle.policy_suits.proofs.protocols_alone.Statement.{statement}
+use Rattle.policy_suits.proofs.protocols_alone.Tie as tie
+
+pub protocols-alone-spec : {M : Type 1} → statement M
+unfolding protocolsAlone
+protocols-alone-spec =
+    tie.close (tie.spec (λ c κs. search needs)
+    (λ c κs. search needs)
+    (λ c κs. search needs)
+    (λ c. cc))

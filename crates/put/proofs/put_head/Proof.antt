@@ -1,9 +1,0 @@
-use Rattle.put.proofs.Ways.{head-written}
-use borrow.Author.Needs.{needs}
-use Rattle.put.proofs.put_head.Statement.{statement}
-use Rattle.put.proofs.put_head.Tie as tie
-
-pub put-head-spec : {M : Type 1} → statement M
-put-head-spec =
-    tie.close
-    (tie.spec (λ c. search needs) (λ c. search needs) (λ c. search needs) (λ c κs. search needs) (λ c. search needs) (λ c. search head-written))

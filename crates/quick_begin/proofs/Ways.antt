@@ -1,0 +1,125 @@
+-- A law for each way out of the functions of begin.
+use Prim.Native.Nat.{ℕ, _≤_}
+use mathlib.Core.Path.{_≡_, sym, ap, _∙_}
+use mathlib.Core.List.{List}
+use mathlib.Core.Bool.{Bool, true, false, not, _&&_}
+use native.Mathlib.Omega.{arith}
+use lib.ListN.{length, getD, take, drop, length-drop}
+use lib.Dec.{eqb, leb}
+use borrow.Author.Tests.{eq-eqb, ne-eqb, eqb-true, not-false}
+use Rattle.wire_write.specs.Put.{put}
+use Rattle.wire_read.specs.Tests.{if_then_else_}
+use Rattle.wire_write.proofs.Laws.{put-size, put-made}
+use Rattle.wire_read.proofs.Tests.{clash, both, by-test, passed}
+use Rattle.identity.specs.Identity.{identityCode, lawful, quickData}
+use Rattle.quick_write.specs.Messages.{bookOf, lines, longer, proposalsOf, longerInto, messageOne}
+use Rattle.quick_write.proofs.Laws.{longer-fits}
+use Rattle.quick_end.specs.Fresh.{isIdle, isInitiator, isGivenUp}
+use Rattle.quick_step.specs.Steps.{small}
+use Rattle.quick_begin.specs.Begin.{identitiesWrong, beginCode, begun}
+use Rattle.quick_end.specs.declared.State.the-variants.{Sent}
+use Rattle.quick_write.specs.declared.Proposals.the-variants.{Offer}
+use Rattle.quick_end.specs.declared.End.{End}
+use Rattle.quick_step.specs.declared.StepAnswer.the-variants.{Send, Refused}
+
+-- ---- an identity is short
+
+picked : {A : Type 0} (t a b : Bool) → (if t then a else b) ≡ true → (a ≡ true → A) → (b ≡ true → A) → A
+picked true a b e f g = f e
+picked false a b e f g = g e
+
+data-few : (type : ℕ) (s : List ℕ) → quickData type s ≡ true → length s ≤ 32
+unfolding quickData
+data-few type s h =
+    picked (eqb type 1) _ _ h (λ e. omega (arith, eqb-true (length s) 4 e))
+    (λ h4. picked (eqb type 4) _ _ h4 (λ e. omega (arith, eqb-true (length s) 8 e))
+    (λ h5. picked (eqb type 5) _ _ h5 (λ e. omega (arith, eqb-true (length s) 16 e))
+    (λ h6. picked (eqb type 6) _ _ h6 (λ e. omega (arith, eqb-true (length s) 32 e))
+    (λ h7. picked (eqb type 7) _ _ h7 (λ e. omega (arith, eqb-true (length s) 8 e))
+    (λ h8. picked (eqb type 8) _ _ h8 (λ e. omega (arith, eqb-true (length s) 32 e)) (λ e. clash e))))))
+
+identity-few : (s : List ℕ) → identityCode 32 s ≡ 0 → length s ≤ 36
+unfolding identityCode lawful
+identity-few s h =
+    by-test (leb 4 (length s) && quickData (getD s 0 0) (drop 4 s))
+    (λ e. omega (arith, data-few (getD s 0 0) (drop 4 s) (both (leb 4 (length s)) _ e .1), length-drop 4 s))
+    (λ e. absurd (omega (arith, (rw e at h))))
+
+wrong-few : (first second : List ℕ) → identitiesWrong first second ≡ false → (length first ≤ 36) × (length second ≤ 36)
+unfolding identitiesWrong
+wrong-few first second h =
+    by-test (eqb (length first) 0 && eqb (length second) 0)
+    (λ e. let none = both (eqb (length first) 0) (eqb (length second) 0) e in (omega (arith, eqb-true (length first) 0 (none .0)), omega (arith, eqb-true (length second) 0 (none .1))))
+    (λ e.
+    let two = both (eqb (identityCode 32 first) 0) (eqb (identityCode 32 second) 0) (not-false (eqb (identityCode 32 first) 0 && eqb (identityCode 32 second) 0) (rw e at h)) in
+    (identity-few first (eqb-true (identityCode 32 first) 0 (two .0)), identity-few second (eqb-true (identityCode 32 second) 0 (two .1))))
+
+-- ---- begin
+
+module _ (e : End) (id : ℕ) (first second : List ℕ) (tight : Bool) where
+  pub begin-small : tight ≡ true → 8192 ≡ beginCode e id first second tight
+  unfolding beginCode
+  begin-small h = rw h
+
+  module _ (roomy : tight ≡ false) (up : Bool) (eu : up ≡ isGivenUp (e .progress .state)) where
+    pub begin-up : up ≡ true → 8196 ≡ beginCode e id first second tight
+    unfolding beginCode
+    begin-up h = rw (roomy, ← eu, h)
+
+    module _ (on : up ≡ false) (begins rests : Bool) (eb : begins ≡ isInitiator (e .own .role)) (er : rests ≡ isIdle (e .progress .state)) where
+      pub begin-other : not (begins && rests) ≡ true → 8195 ≡ beginCode e id first second tight
+      unfolding beginCode
+      begin-other h = rw (roomy, ← eu, on, ← eb, ← er, h)
+
+      module _ (may : not (begins && rests) ≡ false) where
+        pub begin-id : id ≡ 0 → 9 ≡ beginCode e id first second tight
+        unfolding beginCode
+        begin-id h = rw (roomy, ← eu, on, ← eb, ← er, may, eq-eqb id 0 h)
+
+        module _ (named : id ≡ 0 → ⊥) (wrong : Bool) (ew : wrong ≡ identitiesWrong first second) where
+          pub begin-identities : wrong ≡ true → 18 ≡ beginCode e id first second tight
+          unfolding beginCode
+          begin-identities h = rw (roomy, ← eu, on, ← eb, ← er, may, ne-eqb id 0 named, ← ew, h)
+
+          module _ (right : wrong ≡ false) (book : List ℕ) (n : ℕ) (ek : book ≡ take (e .own .booksize) (e .own .book)) (en : n ≡ lines book) where
+            pub begin-lines : n ≡ 0 → 14 ≡ beginCode e id first second tight
+            unfolding beginCode bookOf
+            begin-lines h = rw (roomy, ← eu, on, ← eb, ← er, may, ne-eqb id 0 named, ← ew, right, ← ek, ← en, eq-eqb n 0 h)
+
+            pub begin-passed : (n ≡ 0 → ⊥) → 0 ≡ beginCode e id first second tight
+            unfolding beginCode bookOf
+            begin-passed h = rw (roomy, ← eu, on, ← eb, ← er, may, ne-eqb id 0 named, ← ew, right, ← ek, ← en, ne-eqb n 0 h)
+
+  module _ (code : ℕ) (ec : code ≡ beginCode e id first second tight) (h : code ≡ 0) where
+    few : (length first ≤ 36) × (length second ≤ 36)
+    unfolding beginCode
+    few =
+        let roomy = passed tight 8192 _ (λ z. omega arith) (sym ec ∙ h) in
+        let on = passed (isGivenUp (e .progress .state)) 8196 _ (λ z. omega arith) (roomy .1) in
+        let may = passed (not (isInitiator (e .own .role) && isIdle (e .progress .state))) 8195 _ (λ z. omega arith) (on .1) in
+        let named = passed (eqb id 0) 9 _ (λ z. omega arith) (may .1) in
+        wrong-few first second (passed (identitiesWrong first second) 18 _ (λ z. omega arith) (named .1) .0)
+
+module _ (e : End) (id : ℕ) (first second sent got output : List ℕ) (tight : Bool) (et : tight ≡ small sent got output) (code : ℕ) (ec : code ≡ beginCode e id first second tight) where
+  pub begin-refused : (code ≡ 0 → ⊥) → begun e id first second sent got output ≡ record { step = record { end = e; answer = Refused code }; sent = sent; got = got; output = output }
+  unfolding begun
+  begin-refused h = rw (← et, ← ec, ne-eqb code 0 h)
+
+  pub begin-sent : code ≡ 0 → (none b c : List ℕ) (n k : ℕ) → none ≡ take 0 first →
+      longerInto sent (e .own) id Offer none first second ≡ (n, b) → longerInto output (e .own) id Offer none first second ≡ (k, c) →
+      begun e id first second sent got output ≡ record {
+        step = record { end = record { own = e .own; progress = record { state = Sent; sends = 1; id = id; sentsize = k; gotsize = e .progress .gotsize; agreed = e .progress .agreed } }; answer = Send k };
+        sent = b;
+        got = got;
+        output = c;
+      }
+  unfolding begun messageOne proposalsOf
+  begin-sent h none b c n k en eb ek =
+      let short = few e id first second tight code ec h in
+      let written : (l : List ℕ) → longerInto l (e .own) id Offer none first second ≡ put l 0 (longer (e .own) id (proposalsOf (e .own) Offer none) first second) =
+      λ l. longer-fits l (e .own) id Offer none first second (omega (arith, ap length en)) (omega (arith, short .0)) (omega (arith, short .1)) in
+      let to-output = sym (written output) ∙ ek in
+      let size = put-size output c 0 k _ to-output in
+      let in-sent = put-made sent b 0 n _ (sym (written sent) ∙ eb) in
+      let in-output = put-made output c 0 k _ to-output in
+      rw (← et, ← ec, eq-eqb code 0 h, size, in-sent, in-output)

@@ -1,0 +1,95 @@
+// Begin: an Idle initiator offers one set for each quick line.
+use quick_end::End;
+use quick_end::Progress;
+use quick_end::State;
+use quick_end::is_given_up;
+use quick_end::is_idle;
+use quick_end::is_initiator;
+use identity::identity_code;
+use quick_step::StepAnswer;
+use quick_step::Stepped;
+use quick_step::small;
+use wire_read::front;
+use quick_write::Proposals;
+use quick_write::lines;
+use quick_write::put_longer;
+ghost use mathlib.Core.Path.{_≡_};
+ghost use Rattle.quick_step.specs.Steps.{After};
+ghost use Rattle.quick_begin.specs.Begin.{identitiesWrong, beginCode, begun};
+
+fn identities_wrong(first: &[u8], second: &[u8]) -> bool
+    ensures { λ r. ⌜ r ≡ identitiesWrong (now (first .entry)) (now (second .entry)) ⌝ }
+{
+    let none = (first.len() == 0) & (second.len() == 0);
+    let both = (identity_code(32, first) == 0) & (identity_code(32, second) == 0);
+    !(none | both)
+}
+
+fn begin_code(end: End, id: u32, first: &[u8], second: &[u8], tight: bool) -> u16
+    ensures { λ r. ⌜ r ≡ beginCode end id (now (first .entry)) (now (second .entry)) tight ⌝ }
+{
+    let own = end.own;
+    let role = own.role;
+    let progress = end.progress;
+    let state = progress.state;
+    if tight {
+        return 8192;
+    }
+    if is_given_up(state) {
+        return 8196;
+    }
+    if !(is_initiator(role) & is_idle(state)) {
+        return 8195;
+    }
+    if id == 0 {
+        return 9;
+    }
+    if identities_wrong(first, second) {
+        return 18;
+    }
+    if lines(front(&own.book, own.booksize as usize)) == 0 {
+        return 14;
+    }
+    0
+}
+
+// Begins with a message ID and two identity bodies, both empty for none. Message 1 goes to `sent` and `output`.
+pub fn begin(
+    end: End,
+    id: u32,
+    first: &[u8],
+    second: &[u8],
+    sent: &mut [u8],
+    got: &[u8],
+    output: &mut [u8],
+) -> Stepped
+    ensures { λ r. ⌜ begun end id (now (first .entry)) (now (second .entry)) (now (sent .entry)) (now (got .entry)) (now (output .entry)) ≡ record { step = r; sent = now (sent .exit); got = now (got .entry); output = now (output .exit) } ⌝ }
+{
+    let code = begin_code(end, id, first, second, small(sent, got, output));
+    if code != 0 {
+        return Stepped {
+            end,
+            answer: StepAnswer::Refused(code),
+        };
+    }
+    let own = end.own;
+    let progress = end.progress;
+    let agreed = progress.agreed;
+    let none = front(first, 0);
+    put_longer(sent, own, id, Proposals::Offer, none, first, second);
+    let size = put_longer(output, own, id, Proposals::Offer, none, first, second);
+    Stepped {
+        end: End {
+            own,
+            progress: Progress {
+                state: State::Sent,
+                sends: 1,
+                id,
+                sentsize: size,
+                gotsize: progress.gotsize,
+                agreed,
+            },
+        },
+        answer: StepAnswer::Send(size),
+    }
+}

@@ -1,0 +1,10 @@
+mod MessageShapes
+mod MessageLaws
+mod OfferLaws
+mod TakenLaws
+pub mod Fresh
+pub mod Moves
+pub mod Safety
+pub mod Liveness
+pub mod Example
+pub mod Written

@@ -1,0 +1,217 @@
+-- The exchange of two ends, demand three: two ends of one quick mode that start fresh with the same cookies, and what a network and a
+-- caller may do between them. Everything an end does here is `begun`, `delivered` and `ticked`, the definitions that its contracts cite.
+use Prim.Native.Nat.{ℕ, _<_, _≤_}
+use mathlib.Core.Path.{_≡_}
+use mathlib.Core.List.{List, [], _∷_}
+use mathlib.Core.Bool.{Bool, true}
+use lib.ListN.{length, take}
+use Rattle.sa_sets.specs.Sets.{setNumbered}
+use Rattle.sa_fields.specs.declared.ProposalNumber.{ProposalNumber}
+use Rattle.policy_choice.specs.Choice.{bodyAt, chooseFrom}
+use Rattle.policy_choice.specs.declared.LineNumber.{LineNumber}
+use Rattle.policy_choice.specs.declared.Transforms.{Transforms}
+use Rattle.policy_choice.specs.declared.Choice.the-variants.{Chosen}
+use Rattle.quick_write.specs.Messages.{bookOf, nonceOf, messageOne, messageTwo, messageThree}
+use Rattle.quick_shape.specs.Shapes.{alike, nonce}
+use Rattle.quick_end.specs.Fresh.{fresh}
+use Rattle.quick_step.specs.Steps.{After, kept}
+use Rattle.quick_begin.specs.Begin.{begun}
+use Rattle.quick_tick.specs.Tick.{ticked}
+use Rattle.quick_deliver.specs.Deliver.{delivered}
+use Rattle.quick_end.specs.declared.Role.{Role}
+use Rattle.quick_end.specs.declared.Role.the-variants.{Initiator, Responder}
+use Rattle.quick_end.specs.declared.State.{State}
+use Rattle.quick_end.specs.declared.State.the-variants.{GivenUp}
+use Rattle.quick_end.specs.declared.Own.{Own}
+use Rattle.quick_end.specs.declared.Agreed.{Agreed}
+use Rattle.quick_end.specs.declared.End.{End}
+use Rattle.quick_step.specs.declared.StepAnswer.{StepAnswer}
+use Rattle.quick_step.specs.declared.StepAnswer.the-variants.{Send, Nothing, Refused}
+
+-- one end between two calls: "the record its last call left", and its kept buffers as that call left them
+pub record Party : Type 0 where
+  pub end : End
+  pub sent : List ℕ
+  pub got : List ℕ
+
+-- a call of an end, with any output buffer: begin with any message ID and identities, delivery of any bytes with hash yes or no, tick
+pub data Call : Type 0 where
+  begin : (id : ℕ) (first second output : List ℕ) → Call
+  deliver : (m : List ℕ) (holds : Bool) (output : List ℕ) → Call
+  tick : (output : List ℕ) → Call
+
+unfoldable pub called : Party → Call → After
+called p (begin id first second output) = begun (p .end) id first second (p .sent) (p .got) output
+called p (deliver m holds output) = delivered (p .end) holds m (p .sent) (p .got) output
+called p (tick output) = ticked (p .end) (p .sent) (p .got) output
+
+-- "Each call of an end gets the record its last call left and is lent its kept buffers, nothing else writes either"
+abbrev pub left : After → Party
+left a = record { end = a .step .end; sent = a .sent; got = a .got }
+
+-- a call that answers with a message to send has written it: the front of the output it leaves
+abbrev pub said : StepAnswer → List ℕ → List (List ℕ) → List (List ℕ)
+said (Send size) output log = take size output ∷ log
+said Nothing output log = log
+said (Refused number) output log = log
+
+abbrev pub logged : After → List (List ℕ) → List (List ℕ)
+logged a log = said (a .step .answer) (a .output) log
+
+-- the two ends, and what each has written so far, the newest first
+pub record World : Type 0 where
+  pub initiator : Party
+  pub responder : Party
+  pub fromInitiator : List (List ℕ)
+  pub fromResponder : List (List ℕ)
+
+-- an event is a call of one of the two, the initiator being the first
+pub data Event : Type 0 where
+  atFirst : Call → Event
+  atSecond : Call → Event
+
+abbrev pub step : World → Event → World
+step w (atFirst c) = record {
+  initiator = left (called (w .initiator) c);
+  responder = w .responder;
+  fromInitiator = logged (called (w .initiator) c) (w .fromInitiator);
+  fromResponder = w .fromResponder;
+}
+step w (atSecond c) = record {
+  initiator = w .initiator;
+  responder = left (called (w .responder) c);
+  fromInitiator = w .fromInitiator;
+  fromResponder = logged (called (w .responder) c) (w .fromResponder);
+}
+
+-- m is one of these messages, apart from the 32 hash bytes
+pub data Heard (m : List ℕ) : List (List ℕ) → Type 0 where
+  here : {n : List ℕ} {log : List (List ℕ)} → alike m n ≡ true → Heard m (n ∷ log)
+  there : {n : List ℕ} {log : List (List ℕ)} → Heard m log → Heard m (n ∷ log)
+
+-- "an end is told that a hash holds only for a message the other end wrote in this exchange"; a message ID has 32 bits
+abbrev pub Allowed : List (List ℕ) → Call → Type 0
+Allowed other (begin id first second output) = id < 4294967296
+Allowed other (deliver m holds output) = holds ≡ true → Heard m other
+Allowed other (tick output) = Unit {0}
+
+abbrev pub Fair : World → Event → Type 0
+Fair w (atFirst c) = Allowed (w .fromResponder) c
+Fair w (atSecond c) = Allowed (w .fromInitiator) c
+
+-- "The network may lose, repeat or reorder messages": any events in any order
+pub data Run (w : World) : World → Type 0 where
+  rest : Run w w
+  goes : {u : World} → Run w u → (ev : Event) → Fair u ev → Run w (step u ev)
+
+-- an end that `fresh` has made, of numbers as wide as its types have them
+pub record FreshEnd (role : Role) (icookie rcookie : ℕ) (end : End) : Type 0 where
+  pub book : List ℕ
+  pub ah : ℕ
+  pub esp : ℕ
+  pub nonce : List ℕ
+  pub ah-fits : ah < 4294967296
+  pub esp-fits : esp < 4294967296
+  pub made : fresh role icookie rcookie book ah esp nonce ≡ record { number = 0; end = end }
+
+-- "the initiator and the responder of one quick mode that start fresh with the same cookies": the kept buffers are anything
+pub record Fresh (w : World) : Type 0 where
+  pub icookie : ℕ
+  pub rcookie : ℕ
+  pub icookie-fits : icookie < 18446744073709551616
+  pub rcookie-fits : rcookie < 18446744073709551616
+  pub first : FreshEnd Initiator icookie rcookie (w .initiator .end)
+  pub second : FreshEnd Responder icookie rcookie (w .responder .end)
+  pub none-first : w .fromInitiator ≡ []
+  pub none-second : w .fromResponder ≡ []
+
+-- ---- what the theorems speak of
+
+abbrev pub stateOf : Party → State
+stateOf p = p .end .progress .state
+
+-- the messages that an end has kept, and the values that it has agreed to
+abbrev pub sentOf : Party → List ℕ
+sentOf p = kept (p .end .progress .sentsize) (p .sent)
+
+abbrev pub gotOf : Party → List ℕ
+gotOf p = kept (p .end .progress .gotsize) (p .got)
+
+abbrev pub agreedOf : Party → Agreed
+agreedOf p = p .end .progress .agreed
+
+-- "the same proposal set, transforms, SPIs and nonces", as a caller asks for them: of the record, and by `nonce` of the two messages kept.
+-- The initiator's kept message is its third, so its own nonce is asked of its record.
+pub record Same (i r : Party) : Type 0 where
+  pub same-set : agreedOf r .set ≡ agreedOf i .set
+  pub same-transforms : agreedOf r .transforms ≡ agreedOf i .transforms
+  pub same-initiator : agreedOf r .initiator ≡ agreedOf i .initiator
+  pub same-responder : agreedOf r .responder ≡ agreedOf i .responder
+  pub initiator-nonce : nonce Initiator (gotOf r) (sentOf r) ≡ nonceOf (i .end .own)
+  pub responder-nonce : nonce Responder (gotOf r) (sentOf r) ≡ nonce Responder (sentOf i) (gotOf i)
+  pub responder-own : nonce Responder (gotOf r) (sentOf r) ≡ nonceOf (r .end .own)
+
+-- "buffers full size": the three that a call is lent
+pub record FullSize (p : Party) (output : List ℕ) : Type 0 where
+  pub in-sent : 2048 ≤ length (p .sent)
+  pub in-got : 2048 ≤ length (p .got)
+  pub in-output : 2048 ≤ length output
+
+-- ---- what was written
+
+-- all of it is m, and there is one
+pub data Only (m : List ℕ) : List (List ℕ) → Type 0 where
+  one : Only m (m ∷ [])
+  more : {log : List (List ℕ)} → Only m log → Only m (m ∷ log)
+
+-- first only m, then only n, at least one of each
+pub data Then (m n : List ℕ) : List (List ℕ) → Type 0 where
+  turn : {log : List (List ℕ)} → Only m log → Then m n (n ∷ log)
+  next : {log : List (List ℕ)} → Then m n log → Then m n (n ∷ log)
+
+-- ---- the story of a quick mode: begin, and the arrival of three messages
+
+-- "A begin that isn't refused", at any moment
+pub record Beginning (w : World) : Type 0 where
+  pub moment : World
+  pub run : Run w moment
+  pub id : ℕ
+  pub first : List ℕ
+  pub second : List ℕ
+  pub output : List ℕ
+  pub narrow : id < 4294967296
+  pub taken : (number : ℕ) → called (moment .initiator) (begin id first second output) .step .answer ≡ Refused number → ⊥
+
+abbrev pub beginCall : {w : World} → Beginning w → Call
+beginCall b = begin (b .id) (b .first) (b .second) (b .output)
+
+abbrev pub afterBegin : {w : World} → Beginning w → World
+afterBegin b = step (b .moment) (atFirst (beginCall b))
+
+-- "the responder's policy suits the offer" that message m has
+pub record Suits (own : Own) (m : List ℕ) : Type 0 where
+  pub number : ProposalNumber
+  pub line : LineNumber
+  pub transforms : Transforms
+  pub chosen : chooseFrom 32 (bookOf own) (bodyAt 1 m) ≡ Chosen number line transforms
+
+-- the three messages: what the ends were given, what begin was called with, and what the responder's policy chooses determine them
+abbrev pub oneOf : {w : World} → Beginning w → List ℕ
+oneOf {w} b = messageOne (w .initiator .end .own) (b .id) (b .first) (b .second)
+
+abbrev pub twoOf : {w : World} (b : Beginning w) → Suits (w .responder .end .own) (oneOf b) → List ℕ
+twoOf {w} b s = messageTwo (w .responder .end .own) (b .id) (s .transforms) (setNumbered (s .number) (bodyAt 1 (oneOf b))) (b .first) (b .second)
+
+abbrev pub threeOf : {w : World} → Beginning w → List ℕ
+threeOf {w} b = messageThree (w .initiator .end .own) (b .id)
+
+-- message m arrives at p, equal apart from the hash: "hashes are good, buffers full size", and p has not given up
+pub record Arrives (m : List ℕ) (p : Party) : Type 0 where
+  pub bytes : List ℕ
+  pub output : List ℕ
+  pub equals : alike bytes m ≡ true
+  pub full : FullSize p output
+  pub up : stateOf p ≡ GivenUp → ⊥
+
+abbrev pub delivery : {m : List ℕ} {p : Party} → Arrives m p → Call
+delivery x = deliver (x .bytes) true (x .output)

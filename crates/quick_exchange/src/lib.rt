@@ -1,0 +1,1 @@
+// No code: specs/ has the exchange of two ends, proofs/ what is proved of it.

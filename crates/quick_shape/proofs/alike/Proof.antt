@@ -1,0 +1,17 @@
+use Rattle.quick_shape.specs.Shapes.{alike}
+use borrow.Author.Needs.{needs}
+use Rattle.quick_shape.proofs.alike.Statement.{statement}
+use Rattle.quick_shape.proofs.alike.Tie as tie
+
+pub alike-spec : {M : Type 1} → statement M
+unfolding alike
+alike-spec =
+    tie.close
+    (tie.spec
+    (λ c κs. search needs)
+    (λ c κs. search needs)
+    (λ c κs. search needs)
+    (λ c κs. search needs)
+    (λ c κs. search needs)
+    (λ c κs. search needs)
+    (λ c. cc))

@@ -1,0 +1,8 @@
+use Rattle.quick_shape.specs.Shapes.{shapeOf}
+use borrow.Author.Needs.{needs}
+use Rattle.quick_shape.proofs.shape_of.Statement.{statement}
+use Rattle.quick_shape.proofs.shape_of.Tie as tie
+
+pub shape-of-spec : {M : Type 1} → statement M
+unfolding shapeOf
+shape-of-spec = tie.close (tie.spec (λ c κs. search needs) (λ c κs. search needs) (λ c κs. search needs) (λ c. cc))

@@ -1,0 +1,17 @@
+use Rattle.quick_taken.specs.Taken.{proposalTaken}
+use borrow.Author.Needs.{needs}
+use Rattle.quick_taken.proofs.proposal_taken.Statement.{statement}
+use Rattle.quick_taken.proofs.proposal_taken.Tie as tie
+
+pub proposal-taken-spec : {M : Type 1} → statement M
+unfolding proposalTaken
+proposal-taken-spec =
+    tie.close
+    (tie.spec
+    (λ c κs. search needs)
+    (λ c κs. search needs)
+    (λ c κs. search needs)
+    (λ c κs. search needs)
+    (λ c κs. search needs)
+    (λ c κs. search needs)
+    (λ c. cc))

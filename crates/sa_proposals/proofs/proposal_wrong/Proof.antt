@@ -1,0 +1,18 @@
+use Rattle.sa_proposals.specs.Proposals.{proposalWrong}
+use borrow.Author.Needs.{needs}
+use Rattle.sa_proposals.proofs.proposal_wrong.Statement.{statement}
+use Rattle.sa_proposals.proofs.proposal_wrong.Tie as tie
+
+pub proposal-wrong-spec : {M : Type 1} → statement M
+unfolding proposalWrong
+proposal-wrong-spec =
+    tie.close
+    (tie.spec
+    (λ c κs. search needs)
+    (λ c κs. search needs)
+    (λ c. search needs)
+    (λ c κs. search needs)
+    (λ c κs. search needs)
+    (λ c. search needs)
+    (λ c. search needs)
+    (λ c. cc))

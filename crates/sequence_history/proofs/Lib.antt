@@ -1,0 +1,5 @@
+mod Record
+mod Table
+mod Calls
+pub mod Runs
+pub mod Keys

@@ -1,0 +1,43 @@
+-- Packets, document 01, "Sequence numbers": the SPI and the sequence number in an AH or ESP packet.
+use Prim.Native.Nat.{ℕ, _+_, _*_}
+use mathlib.Core.List.{List, [], _∷_}
+use mathlib.Core.Bool.{Bool, not, _||_, _&&_}
+use lib.ListN.{length, getD}
+use lib.Dec.{leb, eqb}
+use Rattle.wire_read.specs.Wire.{numberAt}
+use Rattle.wire_read.specs.Tests.{if_then_else_}
+use Rattle.wire_read.specs.Answer.{Answer, done, refused}
+use Rattle.sequence_packet.specs.declared.Packet.{Packet}
+use Rattle.sequence_packet.specs.declared.Packet.the-variants.{Read, Refused}
+
+-- 2 is AH, 3 is ESP
+abbrev pub known : ℕ → Bool
+known protocol = eqb protocol 2 || eqb protocol 3
+
+-- "length field plus 2, times 4"
+abbrev pub ahSize : List ℕ → ℕ
+ahSize s = (getD s 1 0 + 2) * 4
+
+-- "AH: 12 bytes at least, reserved zero, length field plus 2, times 4, from 12 to the packet's length; .. else 16"
+unfoldable pub ah : List ℕ → Packet
+ah s =
+    if leb 12 (length s) && eqb (numberAt 2 s 2) 0 && leb 12 (ahSize s) && leb (ahSize s) (length s) then Read (numberAt 4 s 4) (numberAt 4 s 8)
+    else Refused 16
+
+-- "ESP 8 at least; else 16"
+unfoldable pub esp : List ℕ → Packet
+esp s =
+    if leb 8 (length s) then Read (numberAt 4 s 0) (numberAt 4 s 4)
+    else Refused 16
+
+-- "A packet's protocol not 2 or 3: 10."
+unfoldable pub read : ℕ → List ℕ → Packet
+read protocol s =
+    if not (known protocol) then Refused 10
+    else if eqb protocol 2 then ah s
+    else esp s
+
+-- the paper's number and values for each case
+unfoldable pub answer : Packet → Answer
+answer (Read spi number) = done (spi ∷ number ∷ [])
+answer (Refused number) = refused number

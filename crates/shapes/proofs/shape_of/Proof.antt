@@ -1,8 +1,0 @@
-use Rattle.shapes.specs.Shapes.{shapeOf}
-use borrow.Author.Needs.{needs}
-use Rattle.shapes.proofs.shape_of.Statement.{statement}
-use Rattle.shapes.proofs.shape_of.Tie as tie
-
-pub shape-of-spec : {M : Type 1} → statement M
-unfolding shapeOf
-shape-of-spec = tie.close (tie.spec (λ c κs. search needs) (λ c κs. search needs) (λ c κs. search needs) (λ c. cc))

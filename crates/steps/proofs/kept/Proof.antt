@@ -1,8 +1,0 @@
-use Rattle.steps.specs.Steps.{kept}
-use borrow.Author.Needs.{needs}
-use Rattle.steps.proofs.kept.Statement.{statement}
-use Rattle.steps.proofs.kept.Tie as tie
-
-pub kept-spec : {M : Type 1} → statement M
-unfolding kept
-kept-spec = tie.close (tie.spec (λ c κs. search needs) (λ c. search needs) (λ c κs. search needs) (λ c. cc))

@@ -1,9 +1,0 @@
-use Rattle.suits.specs.Suits.{nothingSurplus}
-use borrow.Author.Needs.{needs}
-use Rattle.suits.proofs.nothing_surplus.Statement.{statement}
-use Rattle.suits.proofs.nothing_surplus.Tie as tie
-
-pub nothing-surplus-spec : {M : Type 1} → statement M
-unfolding nothingSurplus
-nothing-surplus-spec = tie.close (tie.spec (λ c κs. search needs)
-    (λ c. cc))
