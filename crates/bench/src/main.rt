@@ -22,11 +22,11 @@ mod words;
 
 use libc::STDIN_FILENO;
 use libc::STDOUT_FILENO;
-use sequence_record::Receive;
-use sequence_record::fresh;
 use say::append;
 use seats::Kept;
 use seats::Seats;
+use sequence_record::Receive;
+use sequence_record::fresh;
 use sequence_table::table::ROOMS;
 use sequence_table::table::Table;
 use sequence_table::table::WORDS;

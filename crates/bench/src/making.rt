@@ -18,9 +18,9 @@ use crate::seats::seated;
 use crate::words;
 use quick_end::End;
 use quick_end::Role;
-use wire_write::put_bytes;
 use wire_read::after;
 use wire_read::front;
+use wire_write::put_bytes;
 
 struct Own {
     role: Role,

@@ -37,7 +37,7 @@ fn payloads(m: &[u8], count: u8, out: &mut [u8], said: usize) -> usize {
 
 // Puts ` TYPE@START+LENGTH`.
 fn payload(p: Payload, out: &mut [u8], said: usize) -> usize {
-    let said = say::number(out, said, p.kind as u64);
+    let said = say::number(out, said, p.payloadtype as u64);
     let said = append(out, said, b"@");
     let said = say::digits(out, said, p.start as u64);
     let said = append(out, said, b"+");

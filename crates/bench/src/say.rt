@@ -1,10 +1,10 @@
 // Filling a buffer: each function puts something at a place and gives back the place behind it. The line end of an answer
 // is put in verbs.rt, once for all.
 use crate::hex::digit;
-use wire_write::put_bytes;
 use sequence_record::LossLine;
 use sequence_record::Verdict;
 use wire_read::byte;
+use wire_write::put_bytes;
 ghost use mathlib.Core.Path.{_≡_};
 ghost use Prim.Native.Nat.{_+_, min};
 ghost use lib.ListN.{length};

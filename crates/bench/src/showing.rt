@@ -18,9 +18,9 @@ use quick_end::Own;
 use quick_end::Progress;
 use quick_end::Role;
 use quick_end::Spis;
-use wire_write::put_be32;
 use wire_read::after;
 use wire_read::front;
+use wire_write::put_be32;
 
 pub(crate) fn state(line: &[u8], ends: Seats, got: &Kept, out: &mut [u8], said: usize) -> usize {
     let Who::Is(role) = role_of(words::nth(line, 1)) else {

@@ -1,12 +1,12 @@
 // What another language calls to reply to a message, and for a whole exchange in one call: two fresh ends, from begin to both open.
+use policy_reply::Outcome;
+use policy_reply::reply;
 use quick_begin::begin;
 use quick_deliver::deliver;
 use quick_end::End;
 use quick_end::Role;
 use quick_end::State;
 use quick_end::fresh;
-use policy_reply::Outcome;
-use policy_reply::reply;
 use quick_step::StepAnswer;
 use quick_step::Stepped;
 use wire_read::front;

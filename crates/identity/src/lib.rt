@@ -14,10 +14,10 @@ fn one_to_255(n: usize) -> bool
 }
 
 // Whether the data of an identity in exchange 2 is as its type asks.
-fn main_data(kind: u8, s: &[u8]) -> bool
-    ensures { λ r. ⌜ r ≡ mainData kind (now (s .entry)) ⌝ }
+fn main_data(identitytype: u8, s: &[u8]) -> bool
+    ensures { λ r. ⌜ r ≡ mainData identitytype (now (s .entry)) ⌝ }
 {
-    match kind {
+    match identitytype {
         1 => s.len() == 4,
         5 => s.len() == 16,
         2 => one_to_255(s.len()),
@@ -30,10 +30,10 @@ fn main_data(kind: u8, s: &[u8]) -> bool
 }
 
 // The same in exchange 32.
-fn quick_data(kind: u8, s: &[u8]) -> bool
-    ensures { λ r. ⌜ r ≡ quickData kind (now (s .entry)) ⌝ }
+fn quick_data(identitytype: u8, s: &[u8]) -> bool
+    ensures { λ r. ⌜ r ≡ quickData identitytype (now (s .entry)) ⌝ }
 {
-    match kind {
+    match identitytype {
         1 => s.len() == 4,
         4 => s.len() == 8,
         5 => s.len() == 16,

@@ -24,7 +24,7 @@ use Rattle.message_chain.specs.declared.Payload.{Payload}
 use Rattle.message_chain.specs.declared.Message.the-variants.{Read}
 
 abbrev nowhere : Payload
-nowhere = record { kind = 0; start = 0; length = 0 }
+nowhere = record { payloadtype = 0; start = 0; length = 0 }
 
 -- payload j of a reading
 abbrev pub nth : List Payload → ℕ → Payload
@@ -43,7 +43,7 @@ pub record Found (exchange left : ℕ) (m : List ℕ) (type start : ℕ) (ps : L
   pub walked : (j : ℕ) → j < length ps → walk j type start m ≡ nth ps j
   pub inside : (j : ℕ) → j < length ps → nth ps j .start + nth ps j .length ≤ length m
   pub measured : (j : ℕ) → j < length ps → nth ps j .length ≡ numberAt 2 (drop (nth ps j .start) m) 2
-  pub offers : (j : ℕ) → j < length ps → nth ps j .kind ≡ 1 → offerCode exchange (bodyOf (drop (nth ps j .start) m)) ≡ 0
+  pub offers : (j : ℕ) → j < length ps → nth ps j .payloadtype ≡ 1 → offerCode exchange (bodyOf (drop (nth ps j .start) m)) ≡ 0
   pub few : length ps ≤ left
 
 -- what follows the first payload was found too
@@ -65,7 +65,7 @@ none-found exchange left m type start = record {
 -- one payload more, in front
 module _ (exchange left : ℕ) (m : List ℕ) (type start : ℕ) (ps : List Payload) (h : start ≤ length m) (fits : numberAt 2 (drop start m) 2 ≤ length (drop start m)) (offer : type ≡ 1 → offerCode exchange (bodyOf (drop start m)) ≡ 0) where
   abbrev all : List Payload
-  all = record { kind = type; start = start; length = numberAt 2 (drop start m) 2 } ∷ ps
+  all = record { payloadtype = type; start = start; length = numberAt 2 (drop start m) 2 } ∷ ps
 
   more-found : Found exchange left m (getD (drop start m) 0 0) (start + numberAt 2 (drop start m) 2) ps → Found exchange (suc left) m type start all
   unfolding walk
@@ -83,7 +83,7 @@ module _ (exchange left : ℕ) (m : List ℕ) (type start : ℕ) (ps : List Payl
       measured zero l = refl
       measured (suc j) l = f .measured j (omega arith)
 
-      offers : (j : ℕ) → j < suc (length ps) → nth all j .kind ≡ 1 → offerCode exchange (bodyOf (drop (nth all j .start) m)) ≡ 0
+      offers : (j : ℕ) → j < suc (length ps) → nth all j .payloadtype ≡ 1 → offerCode exchange (bodyOf (drop (nth all j .start) m)) ≡ 0
       offers zero l = offer
       offers (suc j) l = f .offers j (omega arith)
 

@@ -105,7 +105,7 @@ module _ (k i type start : ℕ) (m : List ℕ) (goal : Payload) (so-far : walk (
       let e : k - i ≡ suc (k - (i + 1)) = omega arith in
       rw (ex, el) (rw e at so-far)
 
-  pub walk-end : k ≤ i → (n : ℕ) → n ≡ numberAt 2 m (start + 2) → record { kind = type; start = start; length = n } ≡ goal
+  pub walk-end : k ≤ i → (n : ℕ) → n ≡ numberAt 2 m (start + 2) → record { payloadtype = type; start = start; length = n } ≡ goal
   unfolding walk
   walk-end h n el =
       let e : k - i ≡ 0 = omega arith in

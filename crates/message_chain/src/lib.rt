@@ -17,21 +17,21 @@ pub enum Message {
 
 // Where a payload lies in its message, and its type.
 pub struct Payload {
-    pub kind: u8,
+    pub payloadtype: u8,
     pub start: usize,
     pub length: usize,
 }
 
 // The payloads from here on, of which so many may come. The first is of that type; offered says whether an SA payload came
 // before.
-fn chain(left: u8, exchange: u8, flags: u8, offered: bool, kind: u8, s: &[u8]) -> Message
+fn chain(left: u8, exchange: u8, flags: u8, offered: bool, payloadtype: u8, s: &[u8]) -> Message
     requires { ⌜ left ≤ 32 ⌝ }
-    ensures { λ r. ⌜ r ≡ exchangeAndCount exchange (32 - left) (chain left exchange flags offered kind 0 (now (s .entry))) ⌝ }
+    ensures { λ r. ⌜ r ≡ exchangeAndCount exchange (32 - left) (chain left exchange flags offered payloadtype 0 (now (s .entry))) ⌝ }
 {
     if left == 0 {
         return Message::Refused(16);
     }
-    let code = payload_code(exchange, offered, kind, s);
+    let code = payload_code(exchange, offered, payloadtype, s);
     if code != 0 {
         return Message::Refused(code);
     }
@@ -39,7 +39,14 @@ fn chain(left: u8, exchange: u8, flags: u8, offered: bool, kind: u8, s: &[u8]) -
     let n = be16(s, 2) as usize;
     let rest = after(s, n);
     if next != 0 {
-        return chain(left - 1, exchange, flags, offered | (kind == 1), next, rest);
+        return chain(
+            left - 1,
+            exchange,
+            flags,
+            offered | (payloadtype == 1),
+            next,
+            rest,
+        );
     }
     let code = rest_code(flags, rest);
     if code != 0 {
@@ -73,17 +80,17 @@ pub fn read(m: &[u8]) -> Message
 pub fn payload_at(m: &[u8], k: u8) -> Payload
     ensures { λ r. ⌜ r ≡ payloadAt k (now (m .entry)) ⌝ }
 {
-    let mut kind = byte(m, 16);
+    let mut payloadtype = byte(m, 16);
     let mut start: usize = 28;
     let mut i = 0;
     while i < k {
-        kind = byte(m, start);
+        payloadtype = byte(m, start);
         start += be16(m, start + 2) as usize;
         i += 1;
     }
     let length = be16(m, start + 2) as usize;
     Payload {
-        kind,
+        payloadtype,
         start,
         length,
     }

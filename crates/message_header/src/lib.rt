@@ -5,7 +5,7 @@ use wire_read::be32;
 use wire_read::byte;
 use wire_read::front;
 ghost use mathlib.Core.Path.{_≡_};
-ghost use Rattle.message_header.specs.Header.{lengthWrong, majorWrong, minorWrong, exchangeRefused, exchangeUnknown, flagsWrong, cookieWrong, messageIdWrong, flaggedLengthWrong, noPayload, headerCode};
+ghost use Rattle.message_header.specs.Header.{lengthWrong, majorWrong, minorWrong, exchangeRefused, exchangeUnknown, flagsWrong, cookieZero, messageIdWrong, flaggedLengthWrong, noPayload, headerCode};
 
 fn length_wrong(m: &[u8]) -> bool
     ensures { λ r. ⌜ r ≡ lengthWrong (now (m .entry)) ⌝ }
@@ -45,8 +45,8 @@ fn flags_wrong(m: &[u8]) -> bool
     1 < byte(m, 19)
 }
 
-fn cookie_wrong(m: &[u8]) -> bool
-    ensures { λ r. ⌜ r ≡ cookieWrong (now (m .entry)) ⌝ }
+fn cookie_zero(m: &[u8]) -> bool
+    ensures { λ r. ⌜ r ≡ cookieZero (now (m .entry)) ⌝ }
 {
     let responder = front(after(m, 8), 8);
     all_zero(front(m, 8)) | (byte(m, 18) == 32) & all_zero(responder)
@@ -94,7 +94,7 @@ pub fn header_code(m: &[u8]) -> u16
     if flags_wrong(m) {
         return 8;
     }
-    if cookie_wrong(m) {
+    if cookie_zero(m) {
         return 4;
     }
     if message_id_wrong(m) {

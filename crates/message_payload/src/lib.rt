@@ -9,11 +9,15 @@ use wire_read::front;
 ghost use mathlib.Core.Path.{_≡_};
 ghost use Rattle.message_payload.specs.Payloads.{typeWrong, lengthOut, hashCode, nonceCode, certificateCode, bodyCode, bodyOf, payloadCode, restCode};
 
-fn type_wrong(exchange: u8, kind: u8) -> bool
-    ensures { λ r. ⌜ r ≡ typeWrong exchange kind ⌝ }
+fn type_wrong(exchange: u8, payloadtype: u8) -> bool
+    ensures { λ r. ⌜ r ≡ typeWrong exchange payloadtype ⌝ }
 {
-    !((kind == 1) | (4 <= kind) & (kind <= 13) | (kind == 20) | (kind == 21) | (kind == 128))
-        | (exchange == 5) & ((kind == 1) | (kind == 5))
+    !((payloadtype == 1)
+        | (4 <= payloadtype) & (payloadtype <= 13)
+        | (payloadtype == 20)
+        | (payloadtype == 21)
+        | (payloadtype == 128))
+        | (exchange == 5) & ((payloadtype == 1) | (payloadtype == 5))
 }
 
 fn length_out(s: &[u8]) -> bool
@@ -53,10 +57,10 @@ fn certificate_code(body: &[u8]) -> u16
     }
 }
 
-fn body_code(exchange: u8, offered: bool, kind: u8, body: &[u8]) -> u16
-    ensures { λ r. ⌜ r ≡ bodyCode exchange offered kind (now (body .entry)) ⌝ }
+fn body_code(exchange: u8, offered: bool, payloadtype: u8, body: &[u8]) -> u16
+    ensures { λ r. ⌜ r ≡ bodyCode exchange offered payloadtype (now (body .entry)) ⌝ }
 {
-    match kind {
+    match payloadtype {
         1 => {
             if offered {
                 15
@@ -80,10 +84,10 @@ fn body_of(s: &[u8]) -> &[u8]
 }
 
 // 0 where the payload is lawful, else the refusal; offered says whether an SA payload came before.
-pub fn payload_code(exchange: u8, offered: bool, kind: u8, s: &[u8]) -> u16
-    ensures { λ r. ⌜ r ≡ payloadCode exchange offered kind (now (s .entry)) ⌝ }
+pub fn payload_code(exchange: u8, offered: bool, payloadtype: u8, s: &[u8]) -> u16
+    ensures { λ r. ⌜ r ≡ payloadCode exchange offered payloadtype (now (s .entry)) ⌝ }
 {
-    if type_wrong(exchange, kind) {
+    if type_wrong(exchange, payloadtype) {
         return 1;
     }
     if s.len() < 4 {
@@ -95,7 +99,7 @@ pub fn payload_code(exchange: u8, offered: bool, kind: u8, s: &[u8]) -> u16
     if length_out(s) {
         return 30;
     }
-    body_code(exchange, offered, kind, body_of(s))
+    body_code(exchange, offered, payloadtype, body_of(s))
 }
 
 // What follows the last payload: nothing, or with flag 1 up to 15 zero bytes.

@@ -39,16 +39,16 @@ module _ (m : List ℕ) where
   pub record Place (n k : ℕ) : Type 0 where
     pub j : ℕ
     pub below : j < k + n
-    pub kind : payloadAt j m .kind ≡ 1
+    pub payloadtype : payloadAt j m .payloadtype ≡ 1
     pub body : saFrom n k m ≡ bodyAt j m
 
   sa-place : (n k : ℕ) → (length (saFrom n k m) ≡ 0 → ⊥) → Place n k
   unfolding saFrom
   sa-place zero k some = absurd (some refl)
   sa-place (suc n) k some =
-      by-test (eqb (payloadAt k m .kind) 1)
-      (λ e. record { j = k; below = omega arith; kind = eqb-true _ _ e; body = rw e })
-      (λ e. let r = sa-place n (k + 1) (λ z. some (rw e z)) in record { j = r .j; below = omega (arith, r .below); kind = r .kind; body = rw e (r .body) })
+      by-test (eqb (payloadAt k m .payloadtype) 1)
+      (λ e. record { j = k; below = omega arith; payloadtype = eqb-true _ _ e; body = rw e })
+      (λ e. let r = sa-place n (k + 1) (λ z. some (rw e z)) in record { j = r .j; below = omega (arith, r .below); payloadtype = r .payloadtype; body = rw e (r .body) })
 
   -- once it is found, more payloads to look through change nothing
   sa-more : (n d k : ℕ) → (length (saFrom n k m) ≡ 0 → ⊥) → saFrom (n + d) k m ≡ saFrom n k m
@@ -56,7 +56,7 @@ module _ (m : List ℕ) where
   sa-more zero d k some = absurd (some refl)
   sa-more (suc n) d k some =
       let up : suc n + d ≡ suc (n + d) = omega arith in
-      rw up (by-test (eqb (payloadAt k m .kind) 1) (λ e. rw e) (λ e. rw e (sa-more n d (k + 1) (λ z. some (rw e z)))))
+      rw up (by-test (eqb (payloadAt k m .payloadtype) 1) (λ e. rw e) (λ e. rw e (sa-more n d (k + 1) (λ z. some (rw e z)))))
 
   module _ (exchange count : ℕ) (readable : message m ≡ read.Read exchange count) (some : length (saFrom count 0 m) ≡ 0 → ⊥) where
     pub sa-reads : offerCode exchange (saFrom count 0 m) ≡ 0
@@ -67,10 +67,10 @@ module _ (m : List ℕ) where
         let p = sa-place count 0 some in
         let below : p .j < length (r .found) = omega (arith, p .below, r .same-count) in
         let walked = f .walked (p .j) below in
-        let kind : nth (r .found) (p .j) .kind ≡ 1 = ap (λ (x : Payload). x .kind) (sym walked) ∙ p .kind in
+        let payloadtype : nth (r .found) (p .j) .payloadtype ≡ 1 = ap (λ (x : Payload). x .payloadtype) (sym walked) ∙ p .payloadtype in
         let s : List ℕ = drop (nth (r .found) (p .j) .start) m in
         let body : bodyAt (p .j) m ≡ drop 4 (take (numberAt 2 s 2) s) = rw (walked, f .measured (p .j) below) in
-        ap (λ (x : ℕ). offerCode x (saFrom count 0 m)) (sym (r .same-exchange)) ∙ ap (offerCode (exchangeOf m)) (p .body ∙ body) ∙ f .offers (p .j) below kind
+        ap (λ (x : ℕ). offerCode x (saFrom count 0 m)) (sym (r .same-exchange)) ∙ ap (offerCode (exchangeOf m)) (p .body ∙ body) ∙ f .offers (p .j) below payloadtype
 
     -- "a message has at most 32 payloads"
     pub sa-same : saFrom 32 0 m ≡ saFrom count 0 m

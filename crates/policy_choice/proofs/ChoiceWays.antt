@@ -94,7 +94,7 @@ module _ (n k exchange : ℕ) (book body : List ℕ) where
 
 -- ---- the SA payload
 
-sa-step : (n k : ℕ) (m : List ℕ) → (n ≡ 0 → ⊥) → saFrom n k m ≡ (if eqb (payloadAt k m .kind) 1 then bodyAt k m else saFrom (n - 1) (k + 1) m)
+sa-step : (n k : ℕ) (m : List ℕ) → (n ≡ 0 → ⊥) → saFrom n k m ≡ (if eqb (payloadAt k m .payloadtype) 1 then bodyAt k m else saFrom (n - 1) (k + 1) m)
 unfolding saFrom
 sa-step zero k m h = absurd (h refl)
 sa-step (suc n) k m h = let e : suc n - 1 ≡ n = omega arith in rw e
@@ -105,14 +105,14 @@ module _ (n k : ℕ) (m r : List ℕ) where
   sa-none z e = rw z e
 
   module _ (some : n ≡ 0 → ⊥) (p : Payload) (ep : p ≡ payloadAt k m) where
-    kind : payloadAt k m .kind ≡ p .kind
-    kind = rw ep
+    payloadtype : payloadAt k m .payloadtype ≡ p .payloadtype
+    payloadtype = rw ep
 
-    pub sa-here : p .kind ≡ 1 → r ≡ bodyAt k m → r ≡ saFrom n k m
-    sa-here h e = rw (sa-step n k m some, kind, eq-eqb (p .kind) 1 h) e
+    pub sa-here : p .payloadtype ≡ 1 → r ≡ bodyAt k m → r ≡ saFrom n k m
+    sa-here h e = rw (sa-step n k m some, payloadtype, eq-eqb (p .payloadtype) 1 h) e
 
-    pub sa-on : (p .kind ≡ 1 → ⊥) → r ≡ saFrom (n - 1) (k + 1) m → r ≡ saFrom n k m
-    sa-on h e = rw (sa-step n k m some, kind, ne-eqb (p .kind) 1 h) e
+    pub sa-on : (p .payloadtype ≡ 1 → ⊥) → r ≡ saFrom (n - 1) (k + 1) m → r ≡ saFrom n k m
+    sa-on h e = rw (sa-step n k m some, payloadtype, ne-eqb (p .payloadtype) 1 h) e
 
 -- ---- the choice
 

@@ -21,7 +21,7 @@ use Rattle.sa_sets.proofs.Places.{transform-lawful, transform-by-number}
 use Rattle.policy_lines.specs.Lines.{quickProtocols}
 use Rattle.policy_choice.specs.Choice.{numberOf}
 use Rattle.policy_choice.proofs.Laws.{First, none, here, lowest-is, HasTransform, transform-low}
-use Rattle.policy_suits.specs.Suits.{present, valueIs, lifeWithin, nothingSurplus, mainValues, mainSuits, quickId, quickIntegrity, quickSuits, suitsLine, transformSuits, lowest, protocolsAlone, protocolsBoth, protocolsSuit}
+use Rattle.policy_suits.specs.Suits.{present, valueIs, lifeWithin, nothingSurplus, mainValues, mainSuits, quickId, quickAuthentication, quickSuits, suitsLine, transformSuits, lowest, protocolsAlone, protocolsBoth, protocolsSuit}
 
 -- ---- a transform that suits is short
 
@@ -69,28 +69,28 @@ module _ (t : List ℕ) where
         wanted-length 2 (1 ∷ 2 ∷ 3 ∷ 20 ∷ 11 ∷ 12 ∷ []) refl refl attributes (l .attributes) (main-there (c .1) seconds (b .1)) (count-is 6 (a .1)),
       )
 
-  -- with integrity, and without it where AH goes along
+  -- with authentication, and without it where AH goes along
   quick-there : (mode seconds : ℕ) → valueIs 4 mode attributes ≡ true → valueIs 1 1 attributes ≡ true → lifeWithin 2 seconds attributes ≡ true → allThere 16 (4 ∷ 1 ∷ 2 ∷ []) attributes ≡ true
   unfolding allThere attribute
   quick-there mode seconds a b c = rw (value-there 4 mode attributes a, value-there 1 1 attributes b, life-there 2 seconds attributes c)
 
-  with-integrity : allThere 16 (4 ∷ 1 ∷ 2 ∷ []) attributes ≡ true → valueIs 5 20 attributes ≡ true → allThere 16 (5 ∷ 4 ∷ 1 ∷ 2 ∷ []) attributes ≡ true
+  with-authentication : allThere 16 (4 ∷ 1 ∷ 2 ∷ []) attributes ≡ true → valueIs 5 20 attributes ≡ true → allThere 16 (5 ∷ 4 ∷ 1 ∷ 2 ∷ []) attributes ≡ true
   unfolding allThere attribute
-  with-integrity a b = rw (value-there 5 20 attributes b) a
+  with-authentication a b = rw (value-there 5 20 attributes b) a
 
-  quick-attributes : (protocols wanted : ℕ) → LawfulTransform 32 t → allThere 16 (4 ∷ 1 ∷ 2 ∷ []) attributes ≡ true → quickIntegrity protocols wanted attributes ≡ true → length attributes ≤ 32
-  unfolding quickIntegrity attributesOf apart allShort wantedTimes mustBeFixed isDuration
+  quick-attributes : (protocols wanted : ℕ) → LawfulTransform 32 t → allThere 16 (4 ∷ 1 ∷ 2 ∷ []) attributes ≡ true → quickAuthentication protocols wanted attributes ≡ true → length attributes ≤ 32
+  unfolding quickAuthentication attributesOf apart allShort wantedTimes mustBeFixed isDuration
   quick-attributes protocols wanted l there h =
       by-test (eqb protocols 2 && eqb wanted 3)
       (λ e. omega (arith, wanted-length 32 (4 ∷ 1 ∷ 2 ∷ []) refl refl attributes (l .attributes) there (count-is 3 (rw e at h))))
       (λ e.
       let two = both (valueIs 5 20 attributes) (nothingSurplus 4 attributes) (rw e at h) in
-      omega (arith, wanted-length 32 (5 ∷ 4 ∷ 1 ∷ 2 ∷ []) refl refl attributes (l .attributes) (with-integrity there (two .0)) (count-is 4 (two .1))))
+      omega (arith, wanted-length 32 (5 ∷ 4 ∷ 1 ∷ 2 ∷ []) refl refl attributes (l .attributes) (with-authentication there (two .0)) (count-is 4 (two .1))))
 
   quick-short : (protocols mode seconds wanted : ℕ) → LawfulTransform 32 t → quickSuits protocols mode seconds wanted t ≡ true → length t ≤ 56
   unfolding quickSuits attributesOf
   quick-short protocols mode seconds wanted l h =
-      let a = both _ (quickIntegrity protocols wanted attributes) h in
+      let a = both _ (quickAuthentication protocols wanted attributes) h in
       let b = both _ (lifeWithin 2 seconds attributes) (a .0) in
       let c = both _ (valueIs 1 1 attributes) (b .0) in
       let d = both (eqb (transformId t) (quickId wanted)) (valueIs 4 mode attributes) (c .0) in

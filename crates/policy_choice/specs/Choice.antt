@@ -1,9 +1,10 @@
 -- The choice, document 01: "Chosen: first set, then first line, then lowest transform in each proposal. Checks: book, message, no SA
 -- payload (16), then 14."
 use Prim.Native.Nat.{ℕ, zero, suc, _+_, _-_}
-use mathlib.Core.List.{List, [], _∷_}
+use mathlib.Core.List.{[], _∷_}
 use lib.ListN.{length, take, drop}
 use lib.Dec.{eqb}
+use Rattle.wire_read.specs.Wire.{Bytes}
 use Rattle.wire_read.specs.Tests.{if_then_else_}
 use Rattle.wire_read.specs.Answer.{Answer, done, refused}
 use Rattle.message_chain.specs.Message.{message, payloadAt}
@@ -23,70 +24,70 @@ use Rattle.policy_choice.specs.declared.Transforms.the-variants.{One, Tw
 use Rattle.policy_choice.specs.declared.Choice.{Choice}
 use Rattle.policy_choice.specs.declared.Choice.the-variants.{Refused, Chosen}
 
-unfoldable pub lineCount : ℕ → List ℕ → ℕ
+unfoldable pub lineCount : (exchange : ℕ) (book : Bytes) → ℕ
 lineCount exchange book = if eqb exchange 2 then mainCount book else quickCount book
 
 -- "first line": counted from 1 among the n from i on; 0 where none suits
-unfoldable pub lineFrom : ℕ → ℕ → ℕ → List ℕ → List ℕ → ℕ
+unfoldable pub lineFrom : (n i exchange : ℕ) (book s : Bytes) → ℕ
 lineFrom zero i exchange book s = 0
 lineFrom (suc n) i exchange book s = if setSuits exchange i book s then i + 1 else lineFrom n (i + 1) exchange book s
 
-unfoldable pub firstLine : ℕ → List ℕ → List ℕ → ℕ
+unfoldable pub firstLine : (exchange : ℕ) (book s : Bytes) → ℕ
 firstLine exchange book s = lineFrom (lineCount exchange book) 0 exchange book s
 
 -- the transform with this count from 1, by its own number
-unfoldable pub numberOf : ℕ → List ℕ → TransformNumber
+unfoldable pub numberOf : (k : ℕ) (p : Bytes) → TransformNumber
 numberOf k p = transformNumber (transform (k - 1) p)
 
 -- "then lowest transform in each proposal", in the offer's order
-unfoldable pub transformsOf : ℕ → ℕ → List ℕ → List ℕ → Transforms
+unfoldable pub transformsOf : (exchange i : ℕ) (book s : Bytes) → Transforms
 transformsOf exchange i book s =
     if eqb (proposalCount s) 1 then One (numberOf (lowest exchange i book (proposal 0 s)) (proposal 0 s))
     else Two (numberOf (lowest exchange i book (proposal 0 s)) (proposal 0 s)) (numberOf (lowest exchange i book (proposal 1 s)) (proposal 1 s))
 
-unfoldable pub chosen : ℕ → ℕ → List ℕ → List ℕ → Choice
+unfoldable pub chosen : (exchange line : ℕ) (book s : Bytes) → Choice
 chosen exchange line book s = Chosen (proposalNumber (proposal 0 s)) (record { 0 = line }) (transformsOf exchange (line - 1) book s)
 
 -- "first set": of the n from k on, "then 14"
-unfoldable pub setFrom : ℕ → ℕ → ℕ → List ℕ → List ℕ → Choice
+unfoldable pub setFrom : (n k exchange : ℕ) (book body : Bytes) → Choice
 setFrom zero k exchange book body = Refused 14
 setFrom (suc n) k exchange book body =
     if eqb (firstLine exchange book (set k body)) 0 then setFrom n (k + 1) exchange book body
     else chosen exchange (firstLine exchange book (set k body)) book (set k body)
 
-unfoldable pub chooseFrom : ℕ → List ℕ → List ℕ → Choice
+unfoldable pub chooseFrom : (exchange : ℕ) (book body : Bytes) → Choice
 chooseFrom exchange book body = setFrom (setCount body) 0 exchange book body
 
 -- the body of payload k, counted from 0
-unfoldable pub bodyAt : ℕ → List ℕ → List ℕ
+unfoldable pub bodyAt : (k : ℕ) (m : Bytes) → Bytes
 bodyAt k m = drop 4 (take (payloadAt k m .length) (drop (payloadAt k m .start) m))
 
 -- the body of the first SA payload among the n payloads from k on; no bytes where there is none
-unfoldable pub saFrom : ℕ → ℕ → List ℕ → List ℕ
+unfoldable pub saFrom : (n k : ℕ) (m : Bytes) → Bytes
 saFrom zero k m = []
-saFrom (suc n) k m = if eqb (payloadAt k m .kind) 1 then bodyAt k m else saFrom n (k + 1) m
+saFrom (suc n) k m = if eqb (payloadAt k m .payloadtype) 1 then bodyAt k m else saFrom n (k + 1) m
 
 -- the refusal of a message that does not read; it is asked of no other
-unfoldable pub messageRefusal : Message → Choice
+unfoldable pub messageRefusal : (read : Message) → Choice
 messageRefusal (read.Refused number) = Refused number
 messageRefusal (read.Read exchange count) = Refused 0
 
 -- "message, no SA payload (16), then 14"
-unfoldable pub messageChoice : List ℕ → List ℕ → Message → Choice
+unfoldable pub messageChoice : (book m : Bytes) (read : Message) → Choice
 messageChoice book m (read.Refused number) = Refused number
 messageChoice book m (read.Read exchange count) =
     if eqb (length (saFrom count 0 m)) 0 then Refused 16
     else chooseFrom exchange book (saFrom count 0 m)
 
-unfoldable pub bookChoice : List ℕ → List ℕ → Book → Choice
+unfoldable pub bookChoice : (book m : Bytes) (read : Book) → Choice
 bookChoice book m (books.Refused number) = Refused number
 bookChoice book m (books.Lawful main quick) = messageChoice book m (message m)
 
-unfoldable pub choice : List ℕ → List ℕ → Choice
+unfoldable pub choice : (book m : Bytes) → Choice
 choice book m = bookChoice book m (bookRead book)
 
 -- the paper's number and values for each case
-unfoldable pub answer : Choice → Answer
-answer (Refused number) = refused number
-answer (Chosen number line (One t)) = done (number .0 ∷ line .0 ∷ t .0 ∷ [])
-answer (Chosen number line (Two t u)) = done (number .0 ∷ line .0 ∷ t .0 ∷ u .0 ∷ [])
+unfoldable pub choiceAnswer : (chosen : Choice) → Answer
+choiceAnswer (Refused number) = refused number
+choiceAnswer (Chosen number line (One t)) = done (number .0 ∷ line .0 ∷ t .0 ∷ [])
+choiceAnswer (Chosen number line (Two t u)) = done (number .0 ∷ line .0 ∷ t .0 ∷ u .0 ∷ [])

@@ -2,21 +2,21 @@
 use crate::Choice;
 use crate::LineNumber;
 use crate::Transforms;
+use message_chain::Message;
+use message_chain::payload_at;
 use policy_book::Book;
 use policy_book::read_book;
 use policy_lines::quick_count;
+use policy_suits::lowest;
+use policy_suits::set_suits;
 use sa_fields::TransformNumber;
 use sa_fields::proposal_number;
 use sa_fields::transform_number;
 use sa_items::proposal;
 use sa_items::proposal_count;
 use sa_items::transform;
-use message_chain::Message;
-use message_chain::payload_at;
 use sa_sets::set;
 use sa_sets::set_count;
-use policy_suits::lowest;
-use policy_suits::set_suits;
 use wire_read::after;
 use wire_read::byte;
 use wire_read::front;
@@ -126,7 +126,7 @@ fn sa_from(n: u8, k: u8, m: &[u8]) -> &[u8]
         return front(m, 0);
     }
     let p = payload_at(m, k);
-    if p.kind == 1 {
+    if p.payloadtype == 1 {
         return body_at(k, m);
     }
     sa_from(n - 1, k + 1, m)

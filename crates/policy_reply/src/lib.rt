@@ -1,20 +1,20 @@
 // The reply: the chosen set with one transform in each proposal, as offered, and own SPIs.
+use policy_choice::Choice;
+use policy_choice::Transforms;
+use policy_choice::choose::choose;
+use policy_choice::choose::sa_body;
 use sa_fields::ProposalNumber;
 use sa_fields::TransformNumber;
 use sa_fields::proposal_number;
 use sa_fields::protocol;
 use sa_items::proposal;
 use sa_items::transform_numbered;
-use policy_choice::Choice;
-use policy_choice::Transforms;
-use policy_choice::choose::choose;
-use policy_choice::choose::sa_body;
+use sa_sets::set_numbered;
+use wire_read::after;
 use wire_write::put_be32;
 use wire_write::put_bytes;
 use wire_write::put_head;
 use wire_write::put_headed;
-use sa_sets::set_numbered;
-use wire_read::after;
 ghost use mathlib.Core.Path.{_≡_};
 ghost use Prim.Native.Nat.{_+_, _≤_};
 ghost use lib.ListN.{length};

@@ -16,11 +16,11 @@ use Rattle.sa_fields.specs.Fields.{transformId, attributesOf, protocol}
 use Rattle.wire_read.specs.Parts.{skip}
 use Rattle.sa_items.specs.Items.{firstItem, afterItem, transform, proposal, proposalCount}
 use Rattle.policy_lines.specs.Lines.{mainSeconds, quickProtocols, quickMode, quickSeconds}
-use Rattle.policy_suits.specs.Suits.{valueIs, nothingSurplus, quickId, lifeWithin, quickIntegrity, mainSuits, quickSuits, suitsLine, transformSuits, lowestFrom, lowest, protocolsAlone, protocolsBoth, protocolsSuit, setSuits}
+use Rattle.policy_suits.specs.Suits.{valueIs, nothingSurplus, quickId, lifeWithin, quickAuthentication, mainSuits, quickSuits, suitsLine, transformSuits, lowestFrom, lowest, protocolsAlone, protocolsBoth, protocolsSuit, setSuits}
 
-pub integrity-both : (protocols protocol : ℕ) (attributes : List ℕ) (a b : Bool) → (eqb protocols 2 && eqb protocol 3) ≡ false → a ≡ valueIs 5 20 attributes → b ≡ nothingSurplus 4 attributes → (a && b) ≡ quickIntegrity protocols protocol attributes
-unfolding quickIntegrity
-integrity-both protocols protocol attributes a b h ea eb = rw (h, ← ea, ← eb)
+pub authentication-both : (protocols protocol : ℕ) (attributes : List ℕ) (a b : Bool) → (eqb protocols 2 && eqb protocol 3) ≡ false → a ≡ valueIs 5 20 attributes → b ≡ nothingSurplus 4 attributes → (a && b) ≡ quickAuthentication protocols protocol attributes
+unfolding quickAuthentication
+authentication-both protocols protocol attributes a b h ea eb = rw (h, ← ea, ← eb)
 
 was-false : (b : Bool) → not b ≡ true → b ≡ false
 was-false true h = clash h
@@ -55,7 +55,7 @@ module _ (i : ℕ) (book : List ℕ) (protocol : ℕ) (t : List ℕ) where
           unfolding quickSuits
           quick-unit h = rw (← ei, ← ew, eq-eqb id wanted same, ← ea, ← em, ← ev, was-true a in-mode, ← eb, was-false b h)
 
-          pub quick-rest : not b ≡ false → (protocols : ℕ) → protocols ≡ quickProtocols i book → (r : Bool) → r ≡ quickIntegrity protocols protocol attributes → r ≡ suits
+          pub quick-rest : not b ≡ false → (protocols : ℕ) → protocols ≡ quickProtocols i book → (r : Bool) → r ≡ quickAuthentication protocols protocol attributes → r ≡ suits
           unfolding quickSuits
           quick-rest h protocols ep r e = rw (← ei, ← ew, eq-eqb id wanted same, ← ea, ← em, ← ev, was-true a in-mode, ← eb, was-true b h, ← es, ← el, was-true l lives, ← ep) e
 
@@ -93,7 +93,7 @@ module _ (n k exchange i : ℕ) (book p : List ℕ) where
     unfolding afterItem
     lowest-rest after ea = rw (add-one, skip-next afterItem k (transformBytes p), ← er, ← es) ea
 
-    module _ (some : n ≡ 0 → ⊥) (kind : ℕ) (ek : kind ≡ protocol p) (t : List ℕ) (et : t ≡ take size rest) (b : Bool) (eb : b ≡ suitsLine exchange i book kind t) where
+    module _ (some : n ≡ 0 → ⊥) (attributetype : ℕ) (ek : attributetype ≡ protocol p) (t : List ℕ) (et : t ≡ take size rest) (b : Bool) (eb : b ≡ suitsLine exchange i book attributetype t) where
       is : b ≡ transformSuits exchange i book p k
       unfolding transformSuits transform firstItem
       is = rw (← er, ← es, ← et, ← ek) eb

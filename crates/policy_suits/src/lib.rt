@@ -1,11 +1,11 @@
 // Which transform, and which set, suits which line of the book.
-use sa_attribute::attribute;
-use sa_attribute::attribute_count;
-use sa_attribute::value;
 use policy_lines::main_seconds;
 use policy_lines::quick_mode;
 use policy_lines::quick_protocols;
 use policy_lines::quick_seconds;
+use sa_attribute::attribute;
+use sa_attribute::attribute_count;
+use sa_attribute::value;
 use sa_fields::attributes_of;
 use sa_fields::protocol;
 use sa_fields::transform_count;
@@ -22,19 +22,19 @@ ghost use Rattle.sa_proposals.specs.Proposals.{transformBytes};
 ghost use Rattle.wire_read.specs.Parts.{skip};
 ghost use Rattle.sa_items.specs.Items.{afterItem};
 ghost use Rattle.policy_lines.specs.Lines.{quickProtocols, quickMode, quickSeconds};
-ghost use Rattle.policy_suits.specs.Suits.{valueIs, lifeWithin, nothingSurplus, mainValues, mainSuits, quickId, quickIntegrity, quickSuits, suitsLine, lowestFrom, lowest, protocolsAlone, protocolsBoth, protocolsSuit, setSuits};
+ghost use Rattle.policy_suits.specs.Suits.{valueIs, lifeWithin, nothingSurplus, mainValues, mainSuits, quickId, quickAuthentication, quickSuits, suitsLine, lowestFrom, lowest, protocolsAlone, protocolsBoth, protocolsSuit, setSuits};
 
-fn value_is(kind: u16, wanted: u32, attributes: &[u8]) -> bool
-    ensures { λ r. ⌜ r ≡ valueIs kind wanted (now (attributes .entry)) ⌝ }
+fn value_is(attributetype: u16, wanted: u32, attributes: &[u8]) -> bool
+    ensures { λ r. ⌜ r ≡ valueIs attributetype wanted (now (attributes .entry)) ⌝ }
 {
-    let found = attribute(kind, attributes);
+    let found = attribute(attributetype, attributes);
     (4 <= found.len()) & (value(found) == wanted)
 }
 
-fn life_within(kind: u16, longest: u32, attributes: &[u8]) -> bool
-    ensures { λ r. ⌜ r ≡ lifeWithin kind longest (now (attributes .entry)) ⌝ }
+fn life_within(attributetype: u16, longest: u32, attributes: &[u8]) -> bool
+    ensures { λ r. ⌜ r ≡ lifeWithin attributetype longest (now (attributes .entry)) ⌝ }
 {
-    let found = attribute(kind, attributes);
+    let found = attribute(attributetype, attributes);
     let life = value(found);
     (4 <= found.len()) & (1 <= life) & (life <= longest)
 }
@@ -71,8 +71,8 @@ pub fn quick_id(protocol: u8) -> u8
     if protocol == 2 { 20 } else { 129 }
 }
 
-fn quick_integrity(protocols: u8, protocol: u8, attributes: &[u8]) -> bool
-    ensures { λ r. ⌜ r ≡ quickIntegrity protocols protocol (now (attributes .entry)) ⌝ }
+fn quick_authentication(protocols: u8, protocol: u8, attributes: &[u8]) -> bool
+    ensures { λ r. ⌜ r ≡ quickAuthentication protocols protocol (now (attributes .entry)) ⌝ }
 {
     if (protocols == 2) & (protocol == 3) {
         nothing_surplus(3, attributes)
@@ -99,7 +99,7 @@ fn quick_suits(i: u8, book: &[u8], protocol: u8, t: &[u8]) -> bool
     if !value_is(1, 1, attributes) {
         return false;
     }
-    quick_integrity(quick_protocols(i, book), protocol, attributes)
+    quick_authentication(quick_protocols(i, book), protocol, attributes)
 }
 
 // Whether a transform of this protocol suits line i of the exchange, counted from 0.

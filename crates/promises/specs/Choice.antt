@@ -18,10 +18,10 @@ use Rattle.message_chain.specs.declared.Message.the-variants as read
 use Rattle.sa_fields.specs.Fields.{transformCount}
 use Rattle.sa_sets.specs.Sets.{set, setCount}
 use Rattle.sa_items.specs.Items.{proposal}
-use Rattle.policy_book.specs.Book.{bookRead, answer as bookAnswer}
+use Rattle.policy_book.specs.Book.{bookRead, bookAnswer}
 use Rattle.policy_suits.specs.Suits.{transformSuits, lowest, setSuits}
-use Rattle.policy_choice.specs.Choice.{lineCount, chosen, chooseFrom, saFrom, messageChoice, bookChoice, choice, answer}
-use Rattle.policy_reply.specs.Reply.{answer as replyAnswer}
+use Rattle.policy_choice.specs.Choice.{lineCount, chosen, chooseFrom, saFrom, messageChoice, bookChoice, choice, choiceAnswer}
+use Rattle.policy_reply.specs.Reply.{replyAnswer}
 use Rattle.policy_book.specs.declared.Book.{Book}
 use Rattle.policy_book.specs.declared.Book.the-variants as books
 use Rattle.policy_choice.specs.declared.Transforms.the-variants.{One, Two}
@@ -111,13 +111,13 @@ meant a =
     else if eqb (length (a .values)) 3 then Chosen (record { 0 = getD (a .values) 0 0 }) (record { 0 = getD (a .values) 1 0 }) (One (record { 0 = getD (a .values) 2 0 }))
     else Chosen (record { 0 = getD (a .values) 0 0 }) (record { 0 = getD (a .values) 1 0 }) (Two (record { 0 = getD (a .values) 2 0 }) (record { 0 = getD (a .values) 3 0 }))
 
-meant-answer : (c : Choice) → meant (answer c) ≡ c
-unfolding answer
+meant-answer : (c : Choice) → meant (choiceAnswer c) ≡ c
+unfolding choiceAnswer
 meant-answer (Refused number) = refl
 meant-answer (Chosen number line (One t)) = refl
 meant-answer (Chosen number line (Two t u)) = refl
 
-pub answer-own : (x y : Choice) → answer x ≡ answer y → x ≡ y
+pub answer-own : (x y : Choice) → choiceAnswer x ≡ choiceAnswer y → x ≡ y
 answer-own x y h = sym (meant-answer x) ∙ ap meant h ∙ meant-answer y
 
 -- ---- nor two books, nor two replies

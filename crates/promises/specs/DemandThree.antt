@@ -10,7 +10,7 @@ use Rattle.quick_shape.specs.Shapes.{nonce}
 use Rattle.quick_end.specs.declared.Role.the-variants.{Initiator, Responder}
 use Rattle.quick_end.specs.declared.State.the-variants.{Half, Open, GivenUp}
 use Rattle.quick_step.specs.declared.StepAnswer.the-variants.{Send, Refused}
-use Rattle.quick_exchange.specs.Exchange.{begin, called, World, atFirst, atSecond, step, Fair, Run, Fresh, stateOf, sentOf, gotOf, Same, Only, Then, Beginning, beginCall, afterBegin, Suits, oneOf, twoOf, threeOf, Arrives, delivery}
+use Rattle.quick_exchange.specs.Exchange.{begin, called, World, atFirst, atSecond, step, Fair, Run, Fresh, stateOf, sentOf, gotOf, Same, Only, Then, Beginning, beginCall, afterBegin, Chooses, oneOf, twoOf, threeOf, Arrives, delivery}
 use Rattle.quick_exchange.proofs.Fresh.{fresh-fit}
 use Rattle.quick_exchange.proofs.Moves.{begin-shut}
 use Rattle.quick_exchange.proofs.Safety.{always, open-both, same-both}
@@ -51,7 +51,7 @@ module _ {w : World} (fresh : Fresh w) where
   begin-at-responder {u} k id first second output = begin-shut (u .responder) id first second output (always fresh k .pair .is-second)
 
   -- "If the responder's policy suits the offer, hashes are good, buffers full size and neither end has given up, then .."
-  module _ (b : Beginning w) (s : Suits (w .responder .end .own) (oneOf b)) where
+  module _ (b : Beginning w) (s : Chooses (w .responder .end .own) (oneOf b)) where
     -- ".. once message one has arrived, two has been written": at every moment after that it is all that the responder has written
     pub two-written : {a z : World} → Run (afterBegin b) a → (x : Arrives (oneOf b) (a .responder)) → Run (step a (atSecond (delivery x))) z → Only (twoOf b s) (z .fromResponder)
     two-written k x l = liveness.two-then fresh b s k x l

@@ -40,17 +40,17 @@ unfoldable pub table : List Example
 table =
     -- M1 the message above reads as shown: exchange 2, one payload, of type 1 at 28 with length 52
     record { defined = message.shown (message.reading example) (header.exchangeOf example); printed = done (2 ∷ 1 ∷ 1 ∷ 28 ∷ 52 ∷ []) }
-    ∷ record { defined = message.answer (message.message example); printed = done (2 ∷ 1 ∷ []) }
+    ∷ record { defined = message.messageAnswer (message.message example); printed = done (2 ∷ 1 ∷ []) }
     -- M2 it is chosen: set 1, line 1, transform 1
-    ∷ record { defined = choices.answer (choices.choice mainBook example); printed = done (1 ∷ 1 ∷ 1 ∷ []) }
+    ∷ record { defined = choices.choiceAnswer (choices.choice mainBook example); printed = done (1 ∷ 1 ∷ 1 ∷ []) }
     -- M3 with `0E11` it is 14
-    ∷ record { defined = choices.answer (choices.choice mainBook (set example 79 0x11)); printed = refused 14 }
+    ∷ record { defined = choices.choiceAnswer (choices.choice mainBook (set example 79 0x11)); printed = refused 14 }
     -- M4 version byte 0x10 is 6
-    ∷ record { defined = message.answer (message.message (set example 17 0x10)); printed = refused 6 }
+    ∷ record { defined = message.messageAnswer (message.message (set example 17 0x10)); printed = refused 6 }
     -- M5 AH and ESP in set 1 against ESP alone is 14
-    ∷ record { defined = choices.answer (choices.choice (quickBook 1) both); printed = refused 14 }
+    ∷ record { defined = choices.choiceAnswer (choices.choice (quickBook 1) both); printed = refused 14 }
     -- M6 against AH with ESP, with suiting transforms, it is chosen
-    ∷ record { defined = choices.answer (choices.choice (quickBook 2) both); printed = done (1 ∷ 1 ∷ 1 ∷ 1 ∷ []) }
+    ∷ record { defined = choices.choiceAnswer (choices.choice (quickBook 2) both); printed = done (1 ∷ 1 ∷ 1 ∷ 1 ∷ []) }
     -- M7 `30 00` is a name
     ∷ record { defined = told (isName (0x30 ∷ 0x00 ∷ [])); printed = told true }
     -- M8 `30 80` isn't
@@ -69,8 +69,8 @@ table =
     ∷ []
 
 pub marked : map (λ (e : Example). e .defined) table ≡ map (λ (e : Example). e .printed) table
-unfolding table example numberAt allZero tagWrong constructed headSize bodySize contents size list filled element isElement isName attributes.sentFixed attributes.attributeType attributes.attributeSize attributes.afterAttribute coding.outOfBounds attributes.find attributes.attribute coding.mustBeFixed coding.fixedWrong coding.isDuration coding.durationWrong coding.attributeCode coding.attributesFrom coding.attributesCode transforms.nextWanted transforms.transformWrong transforms.transformCode transforms.transformsCode proposals.proposalWrong proposals.has proposals.with proposals.none proposals.setBefore proposals.orderWrong proposals.protocolWrong proposals.spiWrong proposals.countWrong proposals.transformBytes proposals.innerCode proposals.proposalCode proposals.proposalsCode proposals.offerCode header.lengthWrong header.majorWrong header.minorWrong header.exchangeRefused header.exchangeUnknown header.flagsWrong header.cookieWrong header.messageIdWrong header.flaggedLengthWrong header.noPayload header.headerCode payloads.typeWrong payloads.lengthOut payloads.bodyCode payloads.bodyOf payloads.payloadCode payloads.restCode message.inFront message.chain message.reading message.answer message.shown message.shownPayloads
+unfolding table example numberAt allZero tagWrong constructed headSize bodySize contents size list filled element isElement isName attributes.sentFixed attributes.attributeType attributes.attributeSize attributes.afterAttribute coding.outOfBounds attributes.find attributes.attribute coding.mustBeFixed coding.fixedWrong coding.isDuration coding.durationWrong coding.attributeCode coding.attributesFrom coding.attributesCode transforms.nextWanted transforms.transformWrong transforms.transformCode transforms.transformsCode proposals.proposalWrong proposals.has proposals.with proposals.none proposals.setBefore proposals.orderWrong proposals.protocolWrong proposals.spiWrong proposals.countWrong proposals.transformBytes proposals.innerCode proposals.proposalCode proposals.proposalsCode proposals.offerCode header.lengthWrong header.majorWrong header.minorWrong header.exchangeRefused header.exchangeUnknown header.flagsWrong header.cookieZero header.messageIdWrong header.flaggedLengthWrong header.noPayload header.headerCode payloads.typeWrong payloads.lengthOut payloads.bodyCode payloads.bodyOf payloads.payloadCode payloads.restCode message.inFront message.chain message.reading message.messageAnswer message.shown message.shownPayloads
     packetsOf lastOf lossOf answered answeredAll bytesOf receive.judged receive.answer packets.read packets.esp tables.holds tables.isFree tables.firstPlace tables.find tables.free tables.entryAt tables.putEntry tables.putKey tables.added tables.judgedAt tables.packetRead tables.packet tables.loss tables.outcomeAnswer tables.countedAnswer ones
-    both mainBook quickBook attributes.value attributes.attributeCount parts.skip parts.parts items.firstItem items.afterItem sets.setEnd sets.firstSet sets.afterSet sets.set sets.setCount items.proposal items.proposalCount fields.proposalNumber fields.protocol fields.transformCount items.transform fields.transformNumber fields.transformId fields.attributesOf lines.quickStart lines.quickCount lines.bookSize lines.mainSeconds lines.quickAt lines.quickProtocols lines.quickMode lines.quickSeconds books.mainLineLawful books.quickLineLawful books.mainLinesLawful books.quickLinesLawful books.bookInFront books.bookRead suits.present suits.valueIs suits.lifeWithin suits.nothingSurplus suits.mainValues suits.mainSuits suits.quickId suits.quickIntegrity suits.quickSuits suits.suitsLine suits.transformSuits suits.lowestFrom suits.lowest suits.protocolsAlone suits.protocolsBoth suits.protocolsSuit suits.setSuits choices.lineCount choices.lineFrom choices.firstLine choices.numberOf choices.transformsOf choices.chosen choices.setFrom choices.chooseFrom choices.bodyAt choices.saFrom choices.messageChoice choices.bookChoice choices.choice choices.answer message.exchangeAndCount message.message message.walk message.payloadAt
+    both mainBook quickBook attributes.value attributes.attributeCount parts.skip parts.parts items.firstItem items.afterItem sets.setEnd sets.firstSet sets.afterSet sets.set sets.setCount items.proposal items.proposalCount fields.proposalNumber fields.protocol fields.transformCount items.transform fields.transformNumber fields.transformId fields.attributesOf lines.quickStart lines.quickCount lines.bookSize lines.mainSeconds lines.quickAt lines.quickProtocols lines.quickMode lines.quickSeconds books.mainLineLawful books.quickLineLawful books.mainLinesLawful books.quickLinesLawful books.bookInFront books.bookRead suits.present suits.valueIs suits.lifeWithin suits.nothingSurplus suits.mainValues suits.mainSuits suits.quickId suits.quickAuthentication suits.quickSuits suits.suitsLine suits.transformSuits suits.lowestFrom suits.lowest suits.protocolsAlone suits.protocolsBoth suits.protocolsSuit suits.setSuits choices.lineCount choices.lineFrom choices.firstLine choices.numberOf choices.transformsOf choices.chosen choices.setFrom choices.chooseFrom choices.bodyAt choices.saFrom choices.messageChoice choices.bookChoice choices.choice choices.choiceAnswer message.exchangeAndCount message.message message.walk message.payloadAt
     fresh.ownOf messages.hash messages.padding messages.padded messages.header messages.messageOf messages.messageThree head headed paste
 marked = refl

@@ -6,7 +6,7 @@ use mathlib.Core.List.{List}
 use native.Mathlib.Omega.{arith}
 use lib.ListN.{length}
 use Rattle.message_header.specs.Header.{firstPayload}
-use Rattle.message_chain.specs.Message.{payloads, reading, walk, payloadAt, answer}
+use Rattle.message_chain.specs.Message.{payloads, reading, walk, payloadAt, messageAnswer}
 use Rattle.message_chain.specs.declared.Payload.{Payload}
 use Rattle.message_chain.specs.declared.Message.{Message}
 use Rattle.message_chain.specs.declared.Message.the-variants.{Refused, Read}
@@ -36,8 +36,8 @@ in-line m ps e =
 
 -- ---- no two answers of `read` have the same number and values
 
-pub answer-own : (x y : Message) → answer x ≡ answer y → x ≡ y
-unfolding answer
+pub answer-own : (x y : Message) → messageAnswer x ≡ messageAnswer y → x ≡ y
+unfolding messageAnswer
 answer-own (Read exchange count) (Read exchange′ count′) h = let e = parts _ _ h in cc
 answer-own (Read exchange count) (Refused m) h = let e = parts _ _ h in never (cc)
 answer-own (Refused n) (Read exchange′ count′) h = let e = parts _ _ h in never (cc)

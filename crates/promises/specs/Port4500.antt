@@ -10,7 +10,7 @@ use Rattle.wire_read.specs.Tests.{if_then_else_}
 use Rattle.wire_read.specs.Answer.{Answer}
 use Rattle.wire_read.proofs.Tests.{never}
 use Rattle.wire_read.proofs.Laws.{equal-true}
-use Rattle.port4500.specs.Port.{marker, datagram, handedOn, answer}
+use Rattle.port4500.specs.Port.{marker, datagram, handedOn, datagramAnswer}
 use Rattle.port4500.specs.declared.Datagram.{Datagram}
 use Rattle.port4500.specs.declared.Datagram.the-variants.{Keepalive, KeyExchange, Esp, Refused}
 
@@ -22,15 +22,15 @@ meant a =
     else if eqb (getD (a .values) 0 0) 2 then KeyExchange (getD (a .values) 1 0) (getD (a .values) 2 0)
     else Esp (getD (a .values) 1 0)
 
-meant-answer : (x : Datagram) → meant (answer x) ≡ x
-unfolding answer
+meant-answer : (x : Datagram) → meant (datagramAnswer x) ≡ x
+unfolding datagramAnswer
 meant-answer Keepalive = refl
 meant-answer (KeyExchange start length) = refl
 meant-answer (Esp length) = refl
 meant-answer (Refused number) = refl
 
 -- no two answers have the same number and values
-pub answer-own : (x y : Datagram) → answer x ≡ answer y → x ≡ y
+pub answer-own : (x y : Datagram) → datagramAnswer x ≡ datagramAnswer y → x ≡ y
 answer-own x y h = sym (meant-answer x) ∙ ap meant h ∙ meant-answer y
 
 -- what each answer says of the datagram

@@ -14,7 +14,7 @@ use Rattle.policy_choice.specs.declared.Choice.the-variants as choices
 use Rattle.quick_end.specs.Fresh.{isInitiator}
 use Rattle.quick_shape.specs.Shapes.{isLonger, alike, shapeOf}
 use Rattle.quick_taken.specs.Taken.{takenCode}
-use Rattle.quick_step.specs.Steps.{After, kept, refusing, answer}
+use Rattle.quick_step.specs.Steps.{After, kept, refusing, stepAnswer}
 use Rattle.quick_begin.specs.Begin.{begun}
 use Rattle.quick_tick.specs.Tick.{ticked}
 use Rattle.quick_deliver.specs.Deliver.{opened, atInitiator, halfway, afterChoice, atResponder, delivered}
@@ -86,13 +86,13 @@ module _ (end : End) (sent got output : List ℕ) where
 abbrev meant : Answer → StepAnswer
 meant a = if eqb (length (a .values)) 0 then Refused (a .number) else if eqb (length (a .values)) 1 then Nothing else Send (getD (a .values) 1 0)
 
-meant-answer : (x : StepAnswer) → meant (answer x) ≡ x
-unfolding answer
+meant-answer : (x : StepAnswer) → meant (stepAnswer x) ≡ x
+unfolding stepAnswer
 meant-answer (Send size) = refl
 meant-answer Nothing = refl
 meant-answer (Refused number) = refl
 
-pub step-own : (x y : StepAnswer) → answer x ≡ answer y → x ≡ y
+pub step-own : (x y : StepAnswer) → stepAnswer x ≡ stepAnswer y → x ≡ y
 step-own x y h = sym (meant-answer x) ∙ ap meant h ∙ meant-answer y
 
 -- every message that an end writes is readable, has at most 2,048 bytes, and is padded with fewer than 16 zero bytes: at every moment of an

@@ -16,7 +16,7 @@ use Rattle.wire_write.specs.Put.{bytesOf}
 use Rattle.wire_read.proofs.Tests.{by-test, passed}
 use Rattle.wire_read.proofs.Laws.{number-drop, number-take, number-append, number-append-add}
 use Rattle.wire_write.proofs.Laws.{length-bytesOf, number-bytesOf, paste-inside, drop-paste}
-use Rattle.message_header.specs.Header.{exchangeOf, flagsOf, firstPayload, lengthWrong, majorWrong, minorWrong, exchangeRefused, exchangeUnknown, flagsWrong, cookieWrong, messageIdWrong, flaggedLengthWrong, noPayload, headerCode}
+use Rattle.message_header.specs.Header.{exchangeOf, flagsOf, firstPayload, lengthWrong, majorWrong, minorWrong, exchangeRefused, exchangeUnknown, flagsWrong, cookieZero, messageIdWrong, flaggedLengthWrong, noPayload, headerCode}
 use Rattle.message_header.proofs.Laws as headers
 use Rattle.message_chain.specs.Message.{message}
 use Rattle.message_chain.specs.declared.Message.the-variants.{Read}
@@ -128,7 +128,7 @@ record Alike (m n : List ℕ) : Type 0 where
   right : lengthWrong n ≡ false
 
 alike-lawful : (m n : List ℕ) → Alike m n → headerCode m ≡ 0 → headerCode n ≡ 0
-unfolding headerCode majorWrong minorWrong exchangeRefused exchangeUnknown flagsWrong cookieWrong messageIdWrong flaggedLengthWrong noPayload
+unfolding headerCode majorWrong minorWrong exchangeRefused exchangeUnknown flagsWrong cookieZero messageIdWrong flaggedLengthWrong noPayload
 alike-lawful m n a h =
     let long = passed (lengthWrong m) 30 _ (λ z. omega arith) h in
     let major = passed (majorWrong m) 5 _ (λ z. omega arith) (long .1) in
@@ -136,7 +136,7 @@ alike-lawful m n a h =
     let past = passed (exchangeRefused m) 29 _ (λ z. omega arith) (minor .1) in
     let known = passed (exchangeUnknown m) 7 _ (λ z. omega arith) (past .1) in
     let flags = passed (flagsWrong m) 8 _ (λ z. omega arith) (known .1) in
-    let cookie = passed (cookieWrong m) 4 _ (λ z. omega arith) (flags .1) in
+    let cookie = passed (cookieZero m) 4 _ (λ z. omega arith) (flags .1) in
     let id = passed (messageIdWrong m) 9 _ (λ z. omega arith) (cookie .1) in
     rw (a .right, a .cookies, a .cookies-too, a .some, a .version, a .same, a .flag, a .id, major .0, minor .0, past .0, known .0, cookie .0, id .0)
 

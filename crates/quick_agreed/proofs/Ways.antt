@@ -30,7 +30,7 @@ module _ (s p q : List ℕ) (count : ℕ) (ep : p ≡ proposal 0 s) (ec : count 
     unfolding transformsIn
     transforms-two h eq u eu second es = rw (← ec, ne-eqb count 1 h, ← ep, ← et, ← ef, ← eq, ← eu, ← es)
 
-  module _ (ah esp kind first : ℕ) (ek : kind ≡ protocol p) (ef : first ≡ spiFor ah esp kind) where
+  module _ (ah esp its first : ℕ) (ek : its ≡ protocol p) (ef : first ≡ spiFor ah esp its) where
     pub own-alone : count ≡ 1 → Alone first ≡ ownSpis ah esp s
     unfolding ownSpis
     own-alone h = rw (← ec, eq-eqb count 1 h, ← ep, ← ek, ← ef)

@@ -1,11 +1,11 @@
 // The agreed values of a set: SPIs and transforms. Every function takes any bytes.
+use policy_choice::Transforms;
 use quick_end::Spis;
 use sa_fields::protocol;
 use sa_fields::transform_number;
 use sa_items::proposal;
 use sa_items::proposal_count;
 use sa_items::transform;
-use policy_choice::Transforms;
 use wire_read::be32;
 ghost use mathlib.Core.Path.{_≡_};
 ghost use Rattle.quick_agreed.specs.Agreed.{spisOf, transformsIn, spiFor, ownSpis};

@@ -1,18 +1,18 @@
 // Begin: an Idle initiator offers one set for each quick line.
+use identity::identity_code;
 use quick_end::End;
 use quick_end::Progress;
 use quick_end::State;
 use quick_end::is_given_up;
 use quick_end::is_idle;
 use quick_end::is_initiator;
-use identity::identity_code;
 use quick_step::StepAnswer;
 use quick_step::Stepped;
 use quick_step::small;
-use wire_read::front;
 use quick_write::Proposals;
 use quick_write::lines;
 use quick_write::put_longer;
+use wire_read::front;
 ghost use mathlib.Core.Path.{_≡_};
 ghost use Rattle.quick_step.specs.Steps.{After};
 ghost use Rattle.quick_begin.specs.Begin.{identitiesWrong, beginCode, begun};

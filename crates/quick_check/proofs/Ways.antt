@@ -13,7 +13,7 @@ use Rattle.message_chain.specs.declared.Message.{Message}
 use Rattle.message_chain.specs.declared.Message.the-variants.{Refused, Read}
 use Rattle.quick_end.specs.Fresh.{isIdle, isInitiator}
 use Rattle.quick_shape.specs.Shapes.{shape}
-use Rattle.quick_check.specs.Checks.{cookiesWrong, quickCode, readCode}
+use Rattle.quick_check.specs.Checks.{cookiesNotOwn, quickCode, readCode}
 use Rattle.quick_end.specs.declared.State.{State}
 use Rattle.quick_end.specs.declared.Own.{Own}
 
@@ -42,7 +42,7 @@ module _ (own : Own) (state : State) (id exchange count : ℕ) (m : List ℕ) wh
       unfolding quickCode
       quick-begins h = rw (eq-eqb exchange 32 quick, ← ef, eq-eqb flags 1 flagged, ← er, ← ei, h)
 
-      module _ (answers : (first && idle) ≡ false) (wrong : Bool) (ew : wrong ≡ cookiesWrong own m) where
+      module _ (answers : (first && idle) ≡ false) (wrong : Bool) (ew : wrong ≡ cookiesNotOwn own m) where
         pub quick-cookies : wrong ≡ true → 4 ≡ quickCode own state id exchange count m
         unfolding quickCode
         quick-cookies h = rw (eq-eqb exchange 32 quick, ← ef, eq-eqb flags 1 flagged, ← er, ← ei, answers, ← ew, h)

@@ -1,15 +1,15 @@
 // What the ends ask of a message that is delivered, from its reading on. Every function takes any bytes.
+use message_chain::Message;
 use quick_end::Own;
 use quick_end::State;
 use quick_end::is_idle;
 use quick_end::is_initiator;
-use message_chain::Message;
 use quick_shape::shape;
 use wire_read::be32;
 use wire_read::byte;
 ghost use mathlib.Core.Path.{_≡_};
 ghost use Rattle.wire_read.specs.Wire.{numberAt};
-ghost use Rattle.quick_check.specs.Checks.{cookiesWrong, quickCode, readCode};
+ghost use Rattle.quick_check.specs.Checks.{cookiesNotOwn, quickCode, readCode};
 
 fn be64(s: &[u8], at: usize) -> u64
     ensures { λ r. ⌜ r ≡ numberAt 8 (now (s .entry)) at ⌝ }
@@ -21,8 +21,8 @@ fn be64(s: &[u8], at: usize) -> u64
     }
 }
 
-fn cookies_wrong(own: Own, m: &[u8]) -> bool
-    ensures { λ r. ⌜ r ≡ cookiesWrong own (now (m .entry)) ⌝ }
+fn cookies_not_own(own: Own, m: &[u8]) -> bool
+    ensures { λ r. ⌜ r ≡ cookiesNotOwn own (now (m .entry)) ⌝ }
 {
     !((be64(m, 0) == own.icookie) & (be64(m, 8) == own.rcookie))
 }
@@ -41,7 +41,7 @@ fn quick_code(own: Own, state: State, id: u32, exchange: u8, count: u8, m: &[u8]
     if is_initiator(role) & idle {
         return 8195;
     }
-    if cookies_wrong(own, m) {
+    if cookies_not_own(own, m) {
         return 4;
     }
     if !idle & (be32(m, 20) != id) {

@@ -30,7 +30,7 @@ use Rattle.quick_write.specs.Messages.{bookOf, longer, longerInto, messageTwo, 
 use Rattle.quick_write.proofs.Laws.{longer-fits}
 use Rattle.quick_end.specs.Fresh.{isIdle, isInitiator, isGivenUp}
 use Rattle.quick_shape.specs.Shapes.{shape, isLonger, alike, countOf, shapeOf}
-use Rattle.quick_check.specs.Checks.{cookiesWrong, quickCode, readCode}
+use Rattle.quick_check.specs.Checks.{cookiesNotOwn, quickCode, readCode}
 use Rattle.quick_taken.specs.Taken.{takenCode, agreedTwo}
 use Rattle.quick_agreed.specs.Agreed.{spisOf, ownSpis}
 use Rattle.quick_step.specs.Steps.{small, kept, withState}
@@ -145,7 +145,7 @@ chain-some (suc left) exchange flags offered type start s =
     let rest : ℕ = restCode flags (drop n s) in
     let more : Reading = chain left exchange flags (offered || eqb type 1) (getD s 0 0) (start + n) (drop n s) in
     let after = end-some (not (eqb (getD s 0 0) 0)) (not (eqb rest 0)) more rest (chain-some left exchange flags (offered || eqb type 1) (getD s 0 0) (start + n) (drop n s)) (some rest) in
-    pick-some (not (eqb code 0)) code _ (some code) (front-some (record { kind = type; start = start; length = n }) _ after)
+    pick-some (not (eqb code 0)) code _ (some code) (front-some (record { payloadtype = type; start = start; length = n }) _ after)
 
 reading-some : (m : List ℕ) → 0 < numberOf (reading m)
 unfolding reading
@@ -158,7 +158,7 @@ module _ (own : Own) (state : State) (id : ℕ) (m : List ℕ) where
       let quick = passed (not (eqb exchange 32)) 7 _ (λ z. omega arith) h in
       let flagged = passed (not (eqb (flagsOf m) 1)) 8 _ (λ z. omega arith) (quick .1) in
       let answers = passed (isInitiator (own .role) && isIdle state) 8195 _ (λ z. omega arith) (flagged .1) in
-      let known = passed (cookiesWrong own m) 4 _ (λ z. omega arith) (answers .1) in
+      let known = passed (cookiesNotOwn own m) 4 _ (λ z. omega arith) (answers .1) in
       let same = passed (not (isIdle state) && not (eqb (numberAt 4 m 20) id)) 9 _ (λ z. omega arith) (known .1) in
       let shaped = passed (eqb (shape count m) 0) 16 _ (λ z. omega arith) (same .1) in
       ltb-false 2048 (length m) (passed (ltb 2048 (length m)) 30 _ (λ z. omega arith) (shaped .1) .0)

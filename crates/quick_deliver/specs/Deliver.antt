@@ -1,12 +1,13 @@
 -- A delivery, document 01, "Quick mode ends": what it answers, and the record and the lent buffers after it.
 use Prim.Native.Nat.{ℕ, min}
-use mathlib.Core.List.{List, []}
+use mathlib.Core.List.{[]}
 use mathlib.Core.Bool.{Bool, not, _||_}
 use lib.ListN.{length}
 use lib.Dec.{eqb}
-use Rattle.wire_read.specs.Wire.{numberAt}
+use Rattle.wire_read.specs.Wire.{Bytes, Code}
 use Rattle.wire_write.specs.Put.{paste}
 use Rattle.wire_read.specs.Tests.{if_then_else_}
+use Rattle.message_header.specs.Header.{messageIdOf}
 use Rattle.message_chain.specs.Message.{message}
 use Rattle.sa_sets.specs.Sets.{setNumbered}
 use Rattle.sa_fields.specs.declared.ProposalNumber.{ProposalNumber}
@@ -28,7 +29,7 @@ use Rattle.quick_step.specs.declared.StepAnswer.the-variants.{Send, Refused}
 use Rattle.quick_step.specs.declared.Stepped.{Stepped}
 
 -- "8192, 23, 8196, reading, .."; holds is what the caller says of the hash
-unfoldable pub deliveryCode : End → Bool → List ℕ → Bool → ℕ
+unfoldable pub deliveryCode : (end : End) (holds : Bool) (m : Bytes) (isSmall : Bool) → Code
 deliveryCode end holds m isSmall =
     if isSmall then 8192
     else if not holds then 23
@@ -36,20 +37,20 @@ deliveryCode end holds m isSmall =
     else readCode (end .own) (end .progress .state) (end .progress .id) m (message m)
 
 -- sending the kept message again: the answer and the output
-unfoldable pub repeated : End → List ℕ → List ℕ → Stepped × List ℕ
+unfoldable pub repeated : (end : End) (sent output : Bytes) → Stepped × Bytes
 repeated end sent output =
     (record { end = end; answer = Send (min (end .progress .sentsize) 2048) }, paste output 0 (kept (end .progress .sentsize) sent))
 
 -- the identities of a message, to be repeated: its payloads 3 and 4, no bytes where it has none
-unfoldable pub identityAt : ℕ → List ℕ → List ℕ
+unfoldable pub identityAt : (k : ℕ) (m : Bytes) → Bytes
 identityAt k m = if eqb (shapeOf m) 5 then bodyAt k m else []
 
-module _ (end : End) (m sent got output : List ℕ) where
+module _ (end : End) (m sent got output : Bytes) where
   -- the messages that are kept
-  abbrev keptSent : List ℕ
+  abbrev keptSent : Bytes
   keptSent = kept (end .progress .sentsize) sent
 
-  abbrev keptGot : List ℕ
+  abbrev keptGot : Bytes
   keptGot = kept (end .progress .gotsize) got
 
   -- "Then Open; writes message 3"; got takes message 2
@@ -67,7 +68,7 @@ module _ (end : End) (m sent got output : List ℕ) where
       (paste got 0 m)
 
   -- "Initiator Sent, message 2: .. Open: an equal message 2 brings message 3 again. All else 8195"
-  unfoldable pub atInitiator : State → After
+  unfoldable pub atInitiator : (state : State) → After
   atInitiator Sent =
       if not (isLonger (shapeOf m)) then refusing end sent got output 8195
       else if not (eqb (takenCode (shapeOf m) keptSent m) 0) then refusing end sent got output (takenCode (shapeOf m) keptSent m)
@@ -80,26 +81,26 @@ module _ (end : End) (m sent got output : List ℕ) where
   atInitiator GivenUp = refusing end sent got output 8195
 
   -- "Half and message 2 (identities repeated), one send"; got takes message 1, whose message ID is taken
-  unfoldable pub halfway : ProposalNumber → Transforms → List ℕ → After
+  unfoldable pub halfway : (number : ProposalNumber) (transforms : Transforms) (s : Bytes) → After
   halfway number transforms s =
-      sending end sent got output (messageTwo (end .own) (numberAt 4 m 20) transforms s (identityAt 3 m) (identityAt 4 m))
+      sending end sent got output (messageTwo (end .own) (messageIdOf m) transforms s (identityAt 3 m) (identityAt 4 m))
       (record {
         state = Half;
         sends = 1;
-        id = numberAt 4 m 20;
-        sentsize = length (messageTwo (end .own) (numberAt 4 m 20) transforms s (identityAt 3 m) (identityAt 4 m));
+        id = messageIdOf m;
+        sentsize = length (messageTwo (end .own) (messageIdOf m) transforms s (identityAt 3 m) (identityAt 4 m));
         gotsize = length m;
         agreed = record { set = number; transforms = transforms; initiator = spisOf s; responder = ownSpis (end .own .ah) (end .own .esp) s };
       })
       (paste got 0 m)
 
-  unfoldable pub afterChoice : Choice → After
+  unfoldable pub afterChoice : (chosen : Choice) → After
   afterChoice (choices.Refused number) = refusing end sent got output number
   afterChoice (choices.Chosen number line transforms) = halfway number transforms (setNumbered number (bodyAt 1 m))
 
   -- "Responder Idle, message 1: .. Half: an equal message 1 brings message 2 again; message 3 brings Open. Open: either brings nothing. All
   -- else 8195"
-  unfoldable pub atResponder : State → After
+  unfoldable pub atResponder : (state : State) → After
   atResponder Idle =
       if not (isLonger (shapeOf m)) then refusing end sent got output 8195
       else afterChoice (chooseFrom 32 (bookOf (end .own)) (bodyAt 1 m))
@@ -113,7 +114,7 @@ module _ (end : End) (m sent got output : List ℕ) where
   atResponder Sent = refusing end sent got output 8195
   atResponder GivenUp = refusing end sent got output 8195
 
-unfoldable pub delivered : End → Bool → List ℕ → List ℕ → List ℕ → List ℕ → After
+unfoldable pub delivered : (end : End) (holds : Bool) (m sent got output : Bytes) → After
 delivered end holds m sent got output =
     if not (eqb (deliveryCode end holds m (small sent got output)) 0)
     then refusing end sent got output (deliveryCode end holds m (small sent got output))

@@ -1,9 +1,10 @@
 -- What an end is asked, and a fresh one, document 01, "Quick mode ends".
 use Prim.Native.Nat.{ℕ}
-use mathlib.Core.List.{List, []}
+use mathlib.Core.List.{[]}
 use mathlib.Core.Bool.{Bool, true, false, not, _||_, _&&_}
 use lib.ListN.{length, replicate}
 use lib.Dec.{ltb, leb, eqb}
+use Rattle.wire_read.specs.Wire.{Bytes, Code}
 use Rattle.wire_write.specs.Put.{paste}
 use Rattle.wire_read.specs.Tests.{if_then_else_}
 use Rattle.policy_book.specs.Book.{bookInFront}
@@ -18,18 +19,18 @@ use Rattle.quick_end.specs.declared.Spis.the-variants.{Alone}
 use Rattle.quick_end.specs.declared.Progress.{Progress}
 use Rattle.quick_end.specs.declared.Made.{Made}
 
-unfoldable pub isIdle : State → Bool
+unfoldable pub isIdle : (state : State) → Bool
 isIdle Idle = true
 isIdle Sent = false
 isIdle Half = false
 isIdle Open = false
 isIdle GivenUp = false
 
-unfoldable pub isInitiator : Role → Bool
+unfoldable pub isInitiator : (role : Role) → Bool
 isInitiator Initiator = true
 isInitiator Responder = false
 
-unfoldable pub isGivenUp : State → Bool
+unfoldable pub isGivenUp : (state : State) → Bool
 isGivenUp GivenUp = true
 isGivenUp Idle = false
 isGivenUp Sent = false
@@ -39,7 +40,7 @@ isGivenUp Open = false
 -- ---- a fresh end
 
 -- "given cookies (zero: 4), book, its AH and ESP SPIs (11), its nonce (16), in that order"
-unfoldable pub freshCode : ℕ → ℕ → List ℕ → ℕ → ℕ → List ℕ → ℕ
+unfoldable pub freshCode : (icookie rcookie : ℕ) (book : Bytes) (ah esp : ℕ) (nonce : Bytes) → Code
 freshCode icookie rcookie book ah esp nonce =
     if eqb icookie 0 || eqb rcookie 0 then 4
     else if not (bookInFront book && eqb (bookSize book) (length book)) then 8193
@@ -58,7 +59,7 @@ idle = record {
   agreed = record { set = record { 0 = 0 }; transforms = One (record { 0 = 0 }); initiator = Alone 0; responder = Alone 0 };
 }
 
-unfoldable pub ownOf : Role → ℕ → ℕ → List ℕ → ℕ → ℕ → List ℕ → Own
+unfoldable pub ownOf : (role : Role) (icookie rcookie : ℕ) (book : Bytes) (ah esp : ℕ) (nonce : Bytes) → Own
 ownOf role icookie rcookie book ah esp nonce = record {
   role = role;
   icookie = icookie;
@@ -72,7 +73,7 @@ ownOf role icookie rcookie book ah esp nonce = record {
 }
 
 -- a refusal comes with an end that holds nothing but its role
-unfoldable pub fresh : Role → ℕ → ℕ → List ℕ → ℕ → ℕ → List ℕ → Made
+unfoldable pub fresh : (role : Role) (icookie rcookie : ℕ) (book : Bytes) (ah esp : ℕ) (nonce : Bytes) → Made
 fresh role icookie rcookie book ah esp nonce =
     if eqb (freshCode icookie rcookie book ah esp nonce) 0
     then record { number = 0; end = record { own = ownOf role icookie rcookie book ah esp nonce; progress = idle } }

@@ -1,11 +1,11 @@
 // What an end is, what it is asked, and a fresh one.
 use policy_book::book_in_front;
+use policy_choice::Transforms;
 use policy_lines::book_size;
 use sa_fields::ProposalNumber;
 use sa_fields::TransformNumber;
-use policy_choice::Transforms;
-use wire_write::put_bytes;
 use wire_read::front;
+use wire_write::put_bytes;
 ghost use mathlib.Core.Path.{_≡_};
 ghost use Prim.Native.Nat.{_≤_};
 ghost use lib.ListN.{length};

@@ -32,7 +32,7 @@ use Rattle.quick_step.specs.declared.StepAnswer.{StepAnswer}
 use Rattle.quick_step.specs.declared.StepAnswer.the-variants.{Send, Nothing, Refused}
 use Rattle.quick_exchange.proofs.MessageShapes.{payloadsWith}
 use Rattle.quick_exchange.proofs.MessageLaws.{longer-passes, third-passes}
-use Rattle.quick_exchange.specs.Exchange.{Party, deliver, called, left, said, logged, World, atFirst, atSecond, step, Heard, here, there, Fair, Run, rest, goes, Fresh, stateOf, sentOf, gotOf, FullSize, Only, one, more, Then, turn, next, Beginning, beginCall, afterBegin, Suits, oneOf, twoOf, threeOf, Arrives, delivery}
+use Rattle.quick_exchange.specs.Exchange.{Party, deliver, called, left, said, logged, World, atFirst, atSecond, step, Heard, here, there, Fair, Run, rest, goes, Fresh, stateOf, sentOf, gotOf, FullSize, Only, one, more, Then, turn, next, Beginning, beginCall, afterBegin, Chooses, oneOf, twoOf, threeOf, Arrives, delivery}
 use Rattle.quick_exchange.proofs.Moves.{asking, answering, past, answering-past, second-is, Ask, offered, answers-with, keeps-it, MoveR, moves-first, moves-second, own-first, own-second, open-rests, Begins, ask-of, begins-with, begin-open, taken-first, taken-second}
 use Rattle.quick_exchange.proofs.Safety.{only-heard, then-heard, none-heard, Keeps, Pair, replyOf, Replied, Stage, new, asked, half, done, Inv, again, sends-it, one-read, one-short, three-read, three-short, two-read, two-takes, two-short, past-cases, always, silent}
 
@@ -115,7 +115,7 @@ longer-is first = by-test (eqb (length first) 0) (λ e. rw e) (λ e. rw e)
 -- ---- what an end does at a message that passes, as an equation
 
 module _ (p : Party) (m output : List ℕ) where
-  at-idle : stateOf p ≡ Idle → isLonger (shapeOf m) ≡ true → (s : Suits (p .end .own) m) → atResponder (p .end) m (p .sent) (p .got) output (stateOf p) ≡ answers-with p m output s
+  at-idle : stateOf p ≡ Idle → isLonger (shapeOf m) ≡ true → (s : Chooses (p .end .own) m) → atResponder (p .end) m (p .sent) (p .got) output (stateOf p) ≡ answers-with p m output s
   unfolding atResponder afterChoice
   at-idle q long s = rw (q, long, s .chosen)
 
@@ -151,7 +151,7 @@ module _ (i r : Party) (pair : Pair (i .end .own) (r .end .own)) (a : Ask (i .en
   same-offer : (m : List ℕ) → alike m (offered a) ≡ true → bodyAt 1 m ≡ bodyAt 1 (offered a)
   same-offer m s = one-read (pair .fit-one) a m s .sa ∙ sym (one-read (pair .fit-one) a (offered a) (alike-same (offered a)) .sa)
 
-  abbrev suits-too : (m : List ℕ) → alike m (offered a) ≡ true → Suits (r .end .own) (offered a) → Suits (r .end .own) m
+  abbrev suits-too : (m : List ℕ) → alike m (offered a) ≡ true → Chooses (r .end .own) (offered a) → Chooses (r .end .own) m
   suits-too m s c = record {
     number = c .number;
     line = c .line;
@@ -194,7 +194,7 @@ module _ (i r : Party) (pair : Pair (i .end .own) (r .end .own)) (a : Ask (i .en
   -- ---- at the responder
 
   module _ (fr : List (List ℕ)) where
-    good-answer : (m output : List ℕ) → stateOf r ≡ Idle → alike m (offered a) ≡ true → Suits (r .end .own) (offered a) → FullSize r output → GoodSecond i fr (called r (deliver m true output))
+    good-answer : (m output : List ℕ) → stateOf r ≡ Idle → alike m (offered a) ≡ true → Chooses (r .end .own) (offered a) → FullSize r output → GoodSecond i fr (called r (deliver m true output))
     unfolding halfway isGivenUp isIdle
     good-answer m output q s c room =
         let here = suits-too m s c in
@@ -250,12 +250,12 @@ module _ (i r : Party) (pair : Pair (i .end .own) (r .end .own)) (a : Ask (i .en
           ∙ at-open-again i m output q (alike-trans m (sentOf r) (gotOf i) same (alike-sym (gotOf i) (sentOf r) eg))
 
 -- message 2 as the initiator's call and the responder's policy determine it
-abbrev pub second-message : {one : Own} (two : Own) (b : Ask one) → Suits two (offered b) → List ℕ
+abbrev pub second-message : {one : Own} (two : Own) (b : Ask one) → Chooses two (offered b) → List ℕ
 second-message two b s = messageTwo two (b .id) (s .transforms) (setNumbered (s .number) (bodyAt 1 (offered b))) (b .first) (b .second)
 
 -- is what the responder replies
 reply-is : (i r : Party) → Pair (i .end .own) (r .end .own) → (a b : Ask (i .end .own)) → offered a ≡ offered b →
-    (fr : List (List ℕ)) → (R : Replied a r fr) → (s : Suits (r .end .own) (offered b)) → replyOf (r .end .own) (gotOf r) (R .suits) ≡ second-message (r .end .own) b s
+    (fr : List (List ℕ)) → (R : Replied a r fr) → (s : Chooses (r .end .own) (offered b)) → replyOf (r .end .own) (gotOf r) (R .suits) ≡ second-message (r .end .own) b s
 reply-is i r pair a b e fr R s =
     let from : alike (gotOf r) (offered b) ≡ true = rw e at (R .from) in
     let l = one-read (pair .fit-one) b (gotOf r) from in
@@ -269,7 +269,7 @@ reply-is i r pair a b e fr R s =
 -- ---- a good message at every stage
 
 module _ (i r : Party) (fi fr : List (List ℕ)) (pair : Pair (i .end .own) (r .end .own)) (b : Ask (i .end .own)) (first : Oldest (offered b) fi) where
-  pub good-second : Stage i r fi fr → (m output : List ℕ) → (stateOf r ≡ GivenUp → ⊥) → Suits (r .end .own) (offered b) → FullSize r output → Heard m fi → GoodSecond i fr (called r (deliver m true output))
+  pub good-second : Stage i r fi fr → (m output : List ℕ) → (stateOf r ≡ GivenUp → ⊥) → Chooses (r .end .own) (offered b) → FullSize r output → Heard m fi → GoodSecond i fr (called r (deliver m true output))
   good-second (new ei er ni nr) m output up c room h = clash (none-heard m ni h)
   good-second (asked a ei k o er nr) m output up c room h = good-answer i r pair a fr m output er (only-heard m o h) (rw (only-oldest o first) c) room
   good-second (half a ei k o R er) m output up c room h = good-again i r pair a fr R m output (answering-half (stateOf r) er up) (only-heard m o h) room
@@ -310,7 +310,7 @@ module _ (i r : Party) (fi fr : List (List ℕ)) (pair : Pair (i .end .own) (r .
 
   -- ---- what has been written by then
 
-  pub written-two : Stage i r fi fr → (s : Suits (r .end .own) (offered b)) → past (stateOf r) ≡ true → Only (second-message (r .end .own) b s) fr
+  pub written-two : Stage i r fi fr → (s : Chooses (r .end .own) (offered b)) → past (stateOf r) ≡ true → Only (second-message (r .end .own) b s) fr
   written-two (new ei er ni nr) s q = clash (cc)
   written-two (asked a ei k o er nr) s q = clash (cc)
   written-two (half a ei k o R er) s q = subst (λ (n : List ℕ). Only n fr) (reply-is i r pair a b (only-oldest o first) fr R s) (R .only)
@@ -351,18 +351,18 @@ module _ {w : World} (f : Fresh w) where
   past-run k (goes {u = z} l (atSecond c) fair) q =
       past-second (moves-second (z .responder) (z .fromInitiator) (always f (runs k l) .pair .is-second) c fair) (past-run k l q)
 
-  module _ (b : Ask (w .initiator .end .own)) (s : Suits (w .responder .end .own) (offered b)) where
+  module _ (b : Ask (w .initiator .end .own)) (s : Chooses (w .responder .end .own) (offered b)) where
     abbrev third-message : List ℕ
     third-message = messageThree (w .initiator .end .own) (b .id)
 
     -- at any moment u after message 1 was written, what is so of an offer of the initiator there is so of b
     module _ {u : World} (k : Run w u) (first : Oldest (offered b) (u .fromInitiator)) where
-      of-b : (A : (one two : Own) (c : Ask one) → Suits two (offered c) → Type 0) →
-          ((c : Ask (u .initiator .end .own)) (t : Suits (u .responder .end .own) (offered c)) → Oldest (offered c) (u .fromInitiator) → A (u .initiator .end .own) (u .responder .end .own) c t) →
+      of-b : (A : (one two : Own) (c : Ask one) → Chooses two (offered c) → Type 0) →
+          ((c : Ask (u .initiator .end .own)) (t : Chooses (u .responder .end .own) (offered c)) → Oldest (offered c) (u .fromInitiator) → A (u .initiator .end .own) (u .responder .end .own) c t) →
           A (w .initiator .end .own) (w .responder .end .own) b s
       of-b A f =
-          subst (λ (one : Own). (c : Ask one) (t : Suits (w .responder .end .own) (offered c)) → Oldest (offered c) (u .fromInitiator) → A one (w .responder .end .own) c t) (own-run k .0)
-          (subst (λ (two : Own). (c : Ask (u .initiator .end .own)) (t : Suits two (offered c)) → Oldest (offered c) (u .fromInitiator) → A (u .initiator .end .own) two c t) (own-run k .1) f)
+          subst (λ (one : Own). (c : Ask one) (t : Chooses (w .responder .end .own) (offered c)) → Oldest (offered c) (u .fromInitiator) → A one (w .responder .end .own) c t) (own-run k .0)
+          (subst (λ (two : Own). (c : Ask (u .initiator .end .own)) (t : Chooses two (offered c)) → Oldest (offered c) (u .fromInitiator) → A (u .initiator .end .own) two c t) (own-run k .1) f)
           b
           s
           first
@@ -433,7 +433,7 @@ module _ {w : World} (f : Fresh w) where
     own-first-then = own-run (b .run) .0
 
     begins : Begins (b .moment .initiator) (b .id) (b .first) (b .second) (b .output)
-    begins = begin-open (b .moment .initiator) (b .id) (b .first) (b .second) (b .output) (b .narrow) (b .taken) .0
+    begins = begin-open (b .moment .initiator) (b .id) (b .first) (b .second) (b .output) (b .narrow) (b .unrefused) .0
 
     abbrev asks-then : Ask (b .moment .initiator .end .own)
     asks-then = ask-of begins (b .narrow)
@@ -450,7 +450,7 @@ module _ {w : World} (f : Fresh w) where
     }
 
     its-call : called (b .moment .initiator) (beginCall b) ≡ begins-with (b .moment .initiator) asks-then (b .output)
-    its-call = begin-open (b .moment .initiator) (b .id) (b .first) (b .second) (b .output) (b .narrow) (b .taken) .1
+    its-call = begin-open (b .moment .initiator) (b .id) (b .first) (b .second) (b .output) (b .narrow) (b .unrefused) .1
 
     same-one : offered asks-then ≡ oneOf b
     same-one = ap (λ (own : Own). messageOne own (b .id) (b .first) (b .second)) own-first-then
@@ -474,7 +474,7 @@ module _ {w : World} (f : Fresh w) where
     first-written : Oldest (oneOf b) (afterBegin b .fromInitiator)
     first-written = subst (λ (log : List (List ℕ)). Oldest (oneOf b) log) (sym begin-writes) alone
 
-    module _ (s : Suits (w .responder .end .own) (oneOf b)) where
+    module _ (s : Chooses (w .responder .end .own) (oneOf b)) where
       -- message one arrives
       module _ {a : World} (k : Run (afterBegin b) a) (x : Arrives (oneOf b) (a .responder)) where
         pub one-fair : Fair a (atSecond (delivery x))

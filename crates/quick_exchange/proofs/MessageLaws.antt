@@ -21,7 +21,7 @@ use Rattle.identity.specs.Identity.{quickData, lawful, identityCode}
 use Rattle.sa_proposals.specs.Proposals.{proposalsCode}
 use Rattle.sa_proposals.specs.Proposals as proposals
 use Rattle.sa_proposals.proofs.Written.{offer-right}
-use Rattle.message_header.specs.Header.{exchangeOf, flagsOf, firstPayload, lengthWrong, majorWrong, minorWrong, exchangeRefused, exchangeUnknown, flagsWrong, cookieWrong, messageIdWrong, flaggedLengthWrong, noPayload, headerCode}
+use Rattle.message_header.specs.Header.{exchangeOf, flagsOf, firstPayload, lengthWrong, majorWrong, minorWrong, exchangeRefused, exchangeUnknown, flagsWrong, cookieZero, messageIdWrong, flaggedLengthWrong, noPayload, headerCode}
 use Rattle.message_payload.specs.Payloads.{typeWrong, lengthOut, hashCode, nonceCode, bodyCode, bodyOf, payloadCode, restCode}
 use Rattle.message_chain.proofs.Laws.{count-more}
 use Rattle.message_chain.specs.Message.{payloads, inFront, chain, reading, exchangeAndCount, message, walk, payloadAt}
@@ -31,8 +31,8 @@ use Rattle.policy_choice.specs.Choice.{bodyAt}
 use Rattle.policy_reply.specs.Reply.{saOf}
 use Rattle.quick_write.specs.Messages.{nonceOf, hash, padding, padded, header, messageOf, nonceAndIdentities, longer, messageThree}
 use Rattle.quick_end.specs.Fresh.{isIdle, isInitiator}
-use Rattle.quick_shape.specs.Shapes.{alike, kindIs, shape, countOf, shapeOf, isLonger, nonceRead, nonceIn}
-use Rattle.quick_check.specs.Checks.{cookiesWrong, quickCode, readCode}
+use Rattle.quick_shape.specs.Shapes.{alike, typeIs, shape, countOf, shapeOf, isLonger, nonceRead, nonceIn}
+use Rattle.quick_check.specs.Checks.{cookiesNotOwn, quickCode, readCode}
 use Rattle.quick_deliver.specs.Deliver.{identityAt}
 use Rattle.quick_end.specs.declared.Own.{Own}
 use Rattle.quick_end.specs.declared.State.{State}
@@ -124,12 +124,12 @@ record Lies (m : List ℕ) (k type start : ℕ) (s : List ℕ) : Type 0 where
   there : drop start m ≡ s
 
 module _ {m : List ℕ} {k type start : ℕ} {s : List ℕ} (l : Lies m k type start s) where
-  lies-at : payloadAt k m ≡ record { kind = type; start = start; length = numberAt 2 s 2 }
+  lies-at : payloadAt k m ≡ record { payloadtype = type; start = start; length = numberAt 2 s 2 }
   unfolding walk
-  lies-at = ap (λ (j : ℕ). payloadAt j m) (sym (add-zero k)) ∙ l .walked 0 ∙ ap (λ (n : ℕ). record { kind = type; start = start; length = n }) (sym (number-drop 2 start m 2) ∙ ap (λ (t : List ℕ). numberAt 2 t 2) (l .there))
+  lies-at = ap (λ (j : ℕ). payloadAt j m) (sym (add-zero k)) ∙ l .walked 0 ∙ ap (λ (n : ℕ). record { payloadtype = type; start = start; length = n }) (sym (number-drop 2 start m 2) ∙ ap (λ (t : List ℕ). numberAt 2 t 2) (l .there))
 
-  lies-kind : payloadAt k m .kind ≡ type
-  lies-kind = ap (λ (p : Payload). p .kind) lies-at
+  lies-type : payloadAt k m .payloadtype ≡ type
+  lies-type = ap (λ (p : Payload). p .payloadtype) lies-at
 
   module _ {next : ℕ} {body rest : List ℕ} (f : Front s next body rest) where
     lies-body : bodyAt k m ≡ body
@@ -165,7 +165,7 @@ cookie-some n c some small =
 record Head (own : Own) (id size : ℕ) (m s : List ℕ) : Type 0 where
   one : take 8 m ≡ bytesOf 8 (own .icookie)
   two : take 8 (drop 8 m) ≡ bytesOf 8 (own .rcookie)
-  kind : firstPayload m ≡ 8
+  payloadtype : firstPayload m ≡ 8
   version : getD m 17 0 ≡ 0x11
   exchange : exchangeOf m ≡ 32
   flag : flagsOf m ≡ 1
@@ -176,7 +176,7 @@ record Head (own : Own) (id size : ℕ) (m s : List ℕ) : Type 0 where
 
 head-of : (own : Own) (id size : ℕ) (s : List ℕ) → Head own id size (header own id size ++ s) s
 unfolding header bytesOf
-head-of own id size s = record { one = refl; two = refl; kind = refl; version = refl; exchange = refl; flag = refl; its-id = refl; its-size = refl; behind = refl; long = omega arith }
+head-of own id size s = record { one = refl; two = refl; payloadtype = refl; version = refl; exchange = refl; flag = refl; its-id = refl; its-size = refl; behind = refl; long = omega arith }
 
 head-is : (own : Own) (id size : ℕ) (m s : List ℕ) → m ≡ header own id (28 + size) ++ s → size ≡ length s → Head own id (28 + length s) m s
 head-is own id size m s e el = rw (e, el) (head-of own id (28 + length s) s)
@@ -211,14 +211,14 @@ module _ {own : Own} {id : ℕ} {m s : List ℕ} (f : Frame own id m s) where
   head-size = number-of 4 24 (28 + length s) m (the-head .its-size) (omega (arith, f .short))
 
   header-passes : headerCode m ≡ 0
-  unfolding headerCode lengthWrong majorWrong minorWrong exchangeRefused exchangeUnknown flagsWrong cookieWrong messageIdWrong flaggedLengthWrong noPayload
+  unfolding headerCode lengthWrong majorWrong minorWrong exchangeRefused exchangeUnknown flagsWrong cookieZero messageIdWrong flaggedLengthWrong noPayload
   header-passes =
       let first-cookie : allZero (bytesOf 8 (own .icookie)) ≡ false = cookie-some 8 (own .icookie) (f .fit .icookie .0) (omega (arith, f .fit .icookie .1)) in
       let second-cookie : allZero (bytesOf 8 (own .rcookie)) ≡ false = cookie-some 8 (own .rcookie) (f .fit .rcookie .0) (omega (arith, f .fit .rcookie .1)) in
       rw (
         the-head .exchange,
         the-head .flag,
-        the-head .kind,
+        the-head .payloadtype,
         the-head .version,
         head-id,
         head-size,
@@ -240,11 +240,11 @@ module _ {own : Own} {id : ℕ} {m s : List ℕ} (f : Frame own id m s) where
 
   head-reads : message m ≡ exchangeAndCount 32 0 (chain 32 32 1 false 8 28 s)
   unfolding message reading
-  head-reads = rw (header-passes, the-head .exchange, the-head .flag, the-head .kind, the-head .behind)
+  head-reads = rw (header-passes, the-head .exchange, the-head .flag, the-head .payloadtype, the-head .behind)
 
   head-lies : Lies m 0 8 28 s
   unfolding payloadAt
-  head-lies = record { walked = λ j. ap (λ (k : ℕ). payloadAt k m) (zero-add j) ∙ ap (λ (type : ℕ). walk j type 28 m) (the-head .kind); there = the-head .behind }
+  head-lies = record { walked = λ j. ap (λ (k : ℕ). payloadAt k m) (zero-add j) ∙ ap (λ (type : ℕ). walk j type 28 m) (the-head .payloadtype); there = the-head .behind }
 
 -- ---- the hash bytes
 
@@ -375,16 +375,16 @@ module _ (own : Own) (id next : ℕ) (behind m : List ℕ) where
 -- ---- the shapes, by the kinds of the payloads
 
 module _ (m : List ℕ) where
-  shape-one : payloadAt 0 m .kind ≡ 8 → shape 1 m ≡ 1
-  unfolding shape kindIs
+  shape-one : payloadAt 0 m .payloadtype ≡ 8 → shape 1 m ≡ 1
+  unfolding shape typeIs
   shape-one k0 = rw k0
 
-  shape-three : payloadAt 0 m .kind ≡ 8 → payloadAt 1 m .kind ≡ 1 → payloadAt 2 m .kind ≡ 10 → shape 3 m ≡ 3
-  unfolding shape kindIs
+  shape-three : payloadAt 0 m .payloadtype ≡ 8 → payloadAt 1 m .payloadtype ≡ 1 → payloadAt 2 m .payloadtype ≡ 10 → shape 3 m ≡ 3
+  unfolding shape typeIs
   shape-three k0 k1 k2 = rw (k0, k1, k2)
 
-  shape-five : payloadAt 0 m .kind ≡ 8 → payloadAt 1 m .kind ≡ 1 → payloadAt 2 m .kind ≡ 10 → payloadAt 3 m .kind ≡ 5 → payloadAt 4 m .kind ≡ 5 → shape 5 m ≡ 5
-  unfolding shape kindIs
+  shape-five : payloadAt 0 m .payloadtype ≡ 8 → payloadAt 1 m .payloadtype ≡ 1 → payloadAt 2 m .payloadtype ≡ 10 → payloadAt 3 m .payloadtype ≡ 5 → payloadAt 4 m .payloadtype ≡ 5 → shape 5 m ≡ 5
+  unfolding shape typeIs
   shape-five k0 k1 k2 k3 k4 = rw (k0, k1, k2, k3, k4)
 
   shape-read : (count : ℕ) → message m ≡ Read 32 count → shape count m ≡ count → shapeOf m ≡ count
@@ -411,7 +411,7 @@ third-reads own id fit some small m a =
     record {
       framed = head-framed frame;
       reads = reads;
-      shape = shape-read m 1 reads (shape-one m (lies-kind (head-lies frame)));
+      shape = shape-read m 1 reads (shape-one m (lies-type (head-lies frame)));
       long = omega (arith, w .its-head .long);
     }
 
@@ -559,7 +559,7 @@ module _ {own : Own} {id : ℕ} {ps : List ℕ} {next : ℕ} {tail m : List ℕ}
       nonce-next ∙ chain-last front-nonce right-nonce 29 place 2 last (rw none (rest-passes (p .its .pad) (p .its .few)))
 
   is-three : shape 3 m ≡ 3
-  is-three = shape-three m (lies-kind (head-lies frame)) (lies-kind lies-sa) (lies-kind lies-nonce)
+  is-three = shape-three m (lies-type (head-lies frame)) (lies-type lies-sa) (lies-type lies-nonce)
 
   -- "8-1-10-5-5"
   module _ (one two : List ℕ) (five : next ≡ 5) (goes : tail ≡ headed 5 one ++ headed 0 two) (right-one : identityCode 32 one ≡ 0) (right-two : identityCode 32 two ≡ 0) where
@@ -586,7 +586,7 @@ module _ {own : Own} {id : ℕ} {ps : List ℕ} {next : ℕ} {tail m : List ℕ}
     lies-two = lies-on lies-behind front-one
 
     is-five : shape 5 m ≡ 5
-    is-five = shape-five m (lies-kind (head-lies frame)) (lies-kind lies-sa) (lies-kind lies-nonce) (lies-kind lies-behind ∙ five) (lies-kind lies-two)
+    is-five = shape-five m (lies-type (head-lies frame)) (lies-type lies-sa) (lies-type lies-nonce) (lies-type lies-behind ∙ five) (lies-type lies-two)
 
     body-one : bodyAt 3 m ≡ one
     body-one = lies-body lies-behind front-one
@@ -681,8 +681,8 @@ longer-reads own id ps first second fit some small (inr (right-one, right-two)) 
 -- ---- the checks of a delivery
 
 module _ (own other : Own) (id : ℕ) (m : List ℕ) (framed : Framed own id m) (same-icookie : other .icookie ≡ own .icookie) (same-rcookie : other .rcookie ≡ own .rcookie) where
-  cookies-right : cookiesWrong other m ≡ false
-  unfolding cookiesWrong
+  cookies-right : cookiesNotOwn other m ≡ false
+  unfolding cookiesNotOwn
   cookies-right = rw (framed .icookie, framed .rcookie, same-icookie, same-rcookie, eq-eqb (own .icookie) (own .icookie) refl, eq-eqb (own .rcookie) (own .rcookie) refl)
 
   -- "message ID (9; an Idle responder takes it)"

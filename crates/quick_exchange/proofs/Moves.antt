@@ -35,7 +35,7 @@ use Rattle.quick_end.specs.declared.State.the-variants.{Idle, Sent, Half, Open,
 use Rattle.quick_end.specs.declared.Own.{Own}
 use Rattle.quick_step.specs.declared.StepAnswer.the-variants.{Refused}
 use Rattle.quick_exchange.proofs.MessageShapes.{Identities}
-use Rattle.quick_exchange.specs.Exchange.{Party, Call, begin, deliver, tick, called, left, Heard, Allowed, stateOf, FullSize, Suits}
+use Rattle.quick_exchange.specs.Exchange.{Party, Call, begin, deliver, tick, called, left, Heard, Allowed, stateOf, FullSize, Chooses}
 
 -- ---- states
 
@@ -204,7 +204,7 @@ in-front-again sent output size a b =
 
 -- ---- the answer to message m, which the book suits
 
-abbrev pub answers-with : (p : Party) (m output : List ℕ) → Suits (p .end .own) m → After
+abbrev pub answers-with : (p : Party) (m output : List ℕ) → Chooses (p .end .own) m → After
 answers-with p m output s = halfway (p .end) m (p .sent) (p .got) output (s .number) (s .transforms) (setNumbered (s .number) (bodyAt 1 m))
 
 -- ---- every call at an end p, where `other` is what the other end wrote
@@ -224,7 +224,7 @@ module _ (p : Party) (other : List (List ℕ)) where
   pub data MoveR : After → Type 0 where
     refuses : (output : List ℕ) (number : ℕ) → MoveR (refusing (p .end) (p .sent) (p .got) output number)
     rests : (output : List ℕ) → MoveR (nothing (p .end) (p .sent) (p .got) output (p .end .progress))
-    answers : (m output : List ℕ) (s : Suits (p .end .own) m) → FullSize p output → stateOf p ≡ Idle → Heard m other → MoveR (answers-with p m output s)
+    answers : (m output : List ℕ) (s : Chooses (p .end .own) m) → FullSize p output → stateOf p ≡ Idle → Heard m other → MoveR (answers-with p m output s)
     repeats : (output : List ℕ) → FullSize p output → stateOf p ≡ Half → MoveR (repeating (p .end) (p .sent) (p .got) output (p .end .progress))
     opens : (m output : List ℕ) → stateOf p ≡ Half → Heard m other → alike m (kept (p .end .progress .gotsize) (p .got)) ≡ false →
         MoveR (nothing (p .end) (p .sent) (p .got) output (withState Open (p .end .progress)))

@@ -30,7 +30,7 @@ use Rattle.sa_sets.proofs.Places.{proposals-count, proposals-place}
 use Rattle.policy_lines.specs.Lines.{quickProtocols, quickMode, quickSeconds}
 use Rattle.policy_suits.specs.Suits.{quickId}
 use Rattle.policy_reply.specs.Reply.{ownSpi, fields, proposalOf}
-use Rattle.quick_write.specs.Messages.{bookOf, fixed, integrity, attributes, transformOne, lineProposal, lineSet, nextSet, lineSets, lines, offerOf}
+use Rattle.quick_write.specs.Messages.{bookOf, fixed, authentication, attributes, transformOne, lineProposal, lineSet, nextSet, lineSets, lines, offerOf}
 use Rattle.quick_exchange.proofs.MessageShapes.{saBody, Fit}
 use Rattle.quick_end.specs.declared.Own.{Own}
 
@@ -48,7 +48,7 @@ module _ (mode high low : ℕ) where
 
 module _ (protocol i : ℕ) (book : List ℕ) where
   attributes-right : (attributesCode 32 (attributes protocol i book) ≡ 0) × (length (attributes protocol i book) ≤ 16)
-  unfolding attributes integrity fixed bytesOf
+  unfolding attributes authentication fixed bytesOf
   attributes-right =
       let seconds : ℕ = quickSeconds i book in
       by-test (eqb (quickProtocols i book) 2 && eqb protocol 3)

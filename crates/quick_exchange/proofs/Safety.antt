@@ -28,7 +28,7 @@ use Rattle.quick_end.specs.declared.Progress.{Progress}
 use Rattle.quick_exchange.proofs.MessageShapes.{Fit, Longer, Third, Answered, replyTo}
 use Rattle.quick_exchange.proofs.MessageLaws.{third-reads}
 use Rattle.quick_exchange.proofs.TakenLaws.{one-reads, two-reads, two-agreed, two-taken}
-use Rattle.quick_exchange.specs.Exchange.{Party, left, logged, World, Event, atFirst, atSecond, step, Heard, here, there, Fair, Run, rest, goes, Fresh, stateOf, sentOf, gotOf, agreedOf, Same, FullSize, Suits, Only, one, more, Then, turn, next}
+use Rattle.quick_exchange.specs.Exchange.{Party, left, logged, World, Event, atFirst, atSecond, step, Heard, here, there, Fair, Run, rest, goes, Fresh, stateOf, sentOf, gotOf, agreedOf, Same, FullSize, Chooses, Only, one, more, Then, turn, next}
 use Rattle.quick_exchange.proofs.Fresh.{fresh-fit}
 use Rattle.quick_exchange.proofs.Moves.{asking, answering, past, answering-past, Ask, offered, begins-with, answers-with, in-front, keeps-it, in-front-again, MoveI, MoveR, moves-first, moves-second, own-first, own-second}
 
@@ -85,10 +85,10 @@ pub record Pair (one two : Own) : Type 0 where
   pub rcookies : one .rcookie ≡ two .rcookie
 
 -- the answer to message g, and what the responder has agreed to with it
-abbrev pub replyOf : (two : Own) (g : List ℕ) → Suits two g → List ℕ
+abbrev pub replyOf : (two : Own) (g : List ℕ) → Chooses two g → List ℕ
 replyOf two g s = replyTo two g (s .number) (s .transforms)
 
-abbrev pub agreement : (two : Own) (g : List ℕ) → Suits two g → Agreed
+abbrev pub agreement : (two : Own) (g : List ℕ) → Chooses two g → Agreed
 agreement two g s = record {
   set = s .number;
   transforms = s .transforms;
@@ -97,7 +97,7 @@ agreement two g s = record {
 }
 
 pub record RepliedCalm {own : Own} (a : Ask own) (r : Party) (log : List (List ℕ)) : Type 0 where
-  pub suits : Suits (r .end .own) (gotOf r)
+  pub suits : Chooses (r .end .own) (gotOf r)
   pub from : alike (gotOf r) (offered a) ≡ true
   pub keeps : Keeps r (a .id) (replyOf (r .end .own) (gotOf r) suits)
   pub its-agreed : agreedOf r ≡ agreement (r .end .own) (gotOf r) suits
@@ -159,7 +159,7 @@ module _ {own : Own} (fit : Fit own) (a : Ask own) where
   pub three-short : length (messageThree own (a .id)) ≤ 2048
   three-short = three-read (messageThree own (a .id)) (alike-same (messageThree own (a .id))) .framed .short
 
-module _ {one two : Own} (pair : Pair one two) (a : Ask one) (g : List ℕ) (from : alike g (offered a) ≡ true) (s : Suits two g) where
+module _ {one two : Own} (pair : Pair one two) (a : Ask one) (g : List ℕ) (from : alike g (offered a) ≡ true) (s : Chooses two g) where
   its-answer : Answered one two (a .id) (a .first) (a .second) g (s .number) (s .line) (s .transforms)
   its-answer = record {
     fit-one = pair .fit-one;
@@ -218,18 +218,18 @@ opens-done i r fi fr pair a R k o er m output room h =
     (rw (got, R .keeps .its-sent) s)
 
 -- what the responder holds whose kept message is g
-replied-with : {own : Own} (a : Ask own) (r : Party) (log : List (List ℕ)) (g : List ℕ) → gotOf r ≡ g → (s : Suits (r .end .own) g) → alike g (offered a) ≡ true →
+replied-with : {own : Own} (a : Ask own) (r : Party) (log : List (List ℕ)) (g : List ℕ) → gotOf r ≡ g → (s : Chooses (r .end .own) g) → alike g (offered a) ≡ true →
     Keeps r (a .id) (replyOf (r .end .own) g s) → agreedOf r ≡ agreement (r .end .own) g s → Only (replyOf (r .end .own) g s) log → Replied a r log
 replied-with a r log g e =
     subst
-    (λ (k : List ℕ). (s : Suits (r .end .own) k) → alike k (offered a) ≡ true → Keeps r (a .id) (replyOf (r .end .own) k s) → agreedOf r ≡ agreement (r .end .own) k s →
+    (λ (k : List ℕ). (s : Chooses (r .end .own) k) → alike k (offered a) ≡ true → Keeps r (a .id) (replyOf (r .end .own) k s) → agreedOf r ≡ agreement (r .end .own) k s →
     Only (replyOf (r .end .own) k s) log → Replied a r log)
     e
     (λ s from keeps its-agreed only. record { suits = s; from = from; keeps = keeps; its-agreed = its-agreed; only = only })
 
 -- message 1 arrives at the responder: it answers
 answers-half : (i r : Party) (fi fr : List (List ℕ)) → Pair (i .end .own) (r .end .own) → (a : Ask (i .end .own)) → asking (stateOf i) ≡ true → Keeps i (a .id) (offered a) → Only (offered a) fi → fr ≡ [] →
-    (m output : List ℕ) (s : Suits (r .end .own) m) → FullSize r output → Heard m fi → Stage i (left (answers-with r m output s)) fi (logged (answers-with r m output s) fr)
+    (m output : List ℕ) (s : Chooses (r .end .own) m) → FullSize r output → Heard m fi → Stage i (left (answers-with r m output s)) fi (logged (answers-with r m output s) fr)
 unfolding halfway
 answers-half i r fi fr pair a ei k o none m output s room h =
     let from : alike m (offered a) ≡ true = only-heard m o h in

@@ -17,7 +17,7 @@ use Rattle.quick_shape.specs.Shapes.{alike}
 use Rattle.quick_shape.proofs.Laws.{alike-same}
 use Rattle.quick_exchange.proofs.MessageShapes.{Fit, payloadsWith}
 use Rattle.quick_exchange.proofs.MessageLaws.{Padded, longer-padded, third-padded}
-use Rattle.quick_exchange.specs.Exchange.{Party, World, Run, Fresh, gotOf, Suits, Only, one, more, Then, turn, next}
+use Rattle.quick_exchange.specs.Exchange.{Party, World, Run, Fresh, gotOf, Chooses, Only, one, more, Then, turn, next}
 use Rattle.quick_exchange.proofs.Moves.{Ask, offered}
 use Rattle.quick_exchange.proofs.Safety.{Pair, replyOf, Stage, new, asked, half, done, one-read, three-read, two-read, always}
 
@@ -53,7 +53,7 @@ module _ {own : Own} (fit : Fit own) (a : Ask own) where
       let l = three-read fit a (messageThree own (a .id)) (alike-same (messageThree own (a .id))) in
       record { count = 1; reads = l .reads; short = l .framed .short; payloads = _; padded = third-padded own (a .id) }
 
-two-readable : {one two : Own} → Pair one two → (a : Ask one) (g : List ℕ) → alike g (offered a) ≡ true → (s : Suits two g) → Readable (replyOf two g s)
+two-readable : {one two : Own} → Pair one two → (a : Ask one) (g : List ℕ) → alike g (offered a) ≡ true → (s : Chooses two g) → Readable (replyOf two g s)
 unfolding messageTwo proposalsOf
 two-readable {one} {two} pair a g from s =
     let ps : List ℕ = setReply (two .ah) (two .esp) (s .transforms) (setNumbered (s .number) (bodyAt 1 g)) in

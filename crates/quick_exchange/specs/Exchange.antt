@@ -5,6 +5,7 @@ use mathlib.Core.Path.{_≡_}
 use mathlib.Core.List.{List, [], _∷_}
 use mathlib.Core.Bool.{Bool, true}
 use lib.ListN.{length, take}
+use Rattle.wire_read.specs.Wire.{Bytes}
 use Rattle.sa_sets.specs.Sets.{setNumbered}
 use Rattle.sa_fields.specs.declared.ProposalNumber.{ProposalNumber}
 use Rattle.policy_choice.specs.Choice.{bodyAt, chooseFrom}
@@ -31,14 +32,14 @@ use Rattle.quick_step.specs.declared.StepAnswer.the-variants.{Send, Nothing, Re
 -- one end between two calls: "the record its last call left", and its kept buffers as that call left them
 pub record Party : Type 0 where
   pub end : End
-  pub sent : List ℕ
-  pub got : List ℕ
+  pub sent : Bytes
+  pub got : Bytes
 
 -- a call of an end, with any output buffer: begin with any message ID and identities, delivery of any bytes with hash yes or no, tick
 pub data Call : Type 0 where
-  begin : (id : ℕ) (first second output : List ℕ) → Call
-  deliver : (m : List ℕ) (holds : Bool) (output : List ℕ) → Call
-  tick : (output : List ℕ) → Call
+  begin : (id : ℕ) (first second output : Bytes) → Call
+  deliver : (m : Bytes) (holds : Bool) (output : Bytes) → Call
+  tick : (output : Bytes) → Call
 
 unfoldable pub called : Party → Call → After
 called p (begin id first second output) = begun (p .end) id first second (p .sent) (p .got) output
@@ -50,20 +51,20 @@ abbrev pub left : After → Party
 left a = record { end = a .step .end; sent = a .sent; got = a .got }
 
 -- a call that answers with a message to send has written it: the front of the output it leaves
-abbrev pub said : StepAnswer → List ℕ → List (List ℕ) → List (List ℕ)
+abbrev pub said : StepAnswer → Bytes → List Bytes → List Bytes
 said (Send size) output log = take size output ∷ log
 said Nothing output log = log
 said (Refused number) output log = log
 
-abbrev pub logged : After → List (List ℕ) → List (List ℕ)
+abbrev pub logged : After → List Bytes → List Bytes
 logged a log = said (a .step .answer) (a .output) log
 
 -- the two ends, and what each has written so far, the newest first
 pub record World : Type 0 where
   pub initiator : Party
   pub responder : Party
-  pub fromInitiator : List (List ℕ)
-  pub fromResponder : List (List ℕ)
+  pub fromInitiator : List Bytes
+  pub fromResponder : List Bytes
 
 -- an event is a call of one of the two, the initiator being the first
 pub data Event : Type 0 where
@@ -85,12 +86,12 @@ step w (atSecond c) = record {
 }
 
 -- m is one of these messages, apart from the 32 hash bytes
-pub data Heard (m : List ℕ) : List (List ℕ) → Type 0 where
-  here : {n : List ℕ} {log : List (List ℕ)} → alike m n ≡ true → Heard m (n ∷ log)
-  there : {n : List ℕ} {log : List (List ℕ)} → Heard m log → Heard m (n ∷ log)
+pub data Heard (m : Bytes) : List Bytes → Type 0 where
+  here : {n : Bytes} {log : List Bytes} → alike m n ≡ true → Heard m (n ∷ log)
+  there : {n : Bytes} {log : List Bytes} → Heard m log → Heard m (n ∷ log)
 
 -- "an end is told that a hash holds only for a message the other end wrote in this exchange"; a message ID has 32 bits
-abbrev pub Allowed : List (List ℕ) → Call → Type 0
+abbrev pub Allowed : List Bytes → Call → Type 0
 Allowed other (begin id first second output) = id < 4294967296
 Allowed other (deliver m holds output) = holds ≡ true → Heard m other
 Allowed other (tick output) = Unit {0}
@@ -106,10 +107,10 @@ pub data Run (w : World) : World → Type 0 where
 
 -- an end that `fresh` has made, of numbers as wide as its types have them
 pub record FreshEnd (role : Role) (icookie rcookie : ℕ) (end : End) : Type 0 where
-  pub book : List ℕ
+  pub book : Bytes
   pub ah : ℕ
   pub esp : ℕ
-  pub nonce : List ℕ
+  pub nonce : Bytes
   pub ah-fits : ah < 4294967296
   pub esp-fits : esp < 4294967296
   pub made : fresh role icookie rcookie book ah esp nonce ≡ record { number = 0; end = end }
@@ -131,10 +132,10 @@ abbrev pub stateOf : Party → State
 stateOf p = p .end .progress .state
 
 -- the messages that an end has kept, and the values that it has agreed to
-abbrev pub sentOf : Party → List ℕ
+abbrev pub sentOf : Party → Bytes
 sentOf p = kept (p .end .progress .sentsize) (p .sent)
 
-abbrev pub gotOf : Party → List ℕ
+abbrev pub gotOf : Party → Bytes
 gotOf p = kept (p .end .progress .gotsize) (p .got)
 
 abbrev pub agreedOf : Party → Agreed
@@ -152,7 +153,7 @@ pub record Same (i r : Party) : Type 0 where
   pub responder-own : nonce Responder (gotOf r) (sentOf r) ≡ nonceOf (r .end .own)
 
 -- "buffers full size": the three that a call is lent
-pub record FullSize (p : Party) (output : List ℕ) : Type 0 where
+pub record FullSize (p : Party) (output : Bytes) : Type 0 where
   pub in-sent : 2048 ≤ length (p .sent)
   pub in-got : 2048 ≤ length (p .got)
   pub in-output : 2048 ≤ length output
@@ -160,14 +161,14 @@ pub record FullSize (p : Party) (output : List ℕ) : Type 0 where
 -- ---- what was written
 
 -- all of it is m, and there is one
-pub data Only (m : List ℕ) : List (List ℕ) → Type 0 where
+pub data Only (m : Bytes) : List Bytes → Type 0 where
   one : Only m (m ∷ [])
-  more : {log : List (List ℕ)} → Only m log → Only m (m ∷ log)
+  more : {log : List Bytes} → Only m log → Only m (m ∷ log)
 
 -- first only m, then only n, at least one of each
-pub data Then (m n : List ℕ) : List (List ℕ) → Type 0 where
-  turn : {log : List (List ℕ)} → Only m log → Then m n (n ∷ log)
-  next : {log : List (List ℕ)} → Then m n log → Then m n (n ∷ log)
+pub data Then (m n : Bytes) : List Bytes → Type 0 where
+  turn : {log : List Bytes} → Only m log → Then m n (n ∷ log)
+  next : {log : List Bytes} → Then m n log → Then m n (n ∷ log)
 
 -- ---- the story of a quick mode: begin, and the arrival of three messages
 
@@ -176,11 +177,11 @@ pub record Beginning (w : World) : Type 0 where
   pub moment : World
   pub run : Run w moment
   pub id : ℕ
-  pub first : List ℕ
-  pub second : List ℕ
-  pub output : List ℕ
+  pub first : Bytes
+  pub second : Bytes
+  pub output : Bytes
   pub narrow : id < 4294967296
-  pub taken : (number : ℕ) → called (moment .initiator) (begin id first second output) .step .answer ≡ Refused number → ⊥
+  pub unrefused : (number : ℕ) → called (moment .initiator) (begin id first second output) .step .answer ≡ Refused number → ⊥
 
 abbrev pub beginCall : {w : World} → Beginning w → Call
 beginCall b = begin (b .id) (b .first) (b .second) (b .output)
@@ -189,29 +190,29 @@ abbrev pub afterBegin : {w : World} → Beginning w → World
 afterBegin b = step (b .moment) (atFirst (beginCall b))
 
 -- "the responder's policy suits the offer" that message m has
-pub record Suits (own : Own) (m : List ℕ) : Type 0 where
+pub record Chooses (own : Own) (m : Bytes) : Type 0 where
   pub number : ProposalNumber
   pub line : LineNumber
   pub transforms : Transforms
   pub chosen : chooseFrom 32 (bookOf own) (bodyAt 1 m) ≡ Chosen number line transforms
 
 -- the three messages: what the ends were given, what begin was called with, and what the responder's policy chooses determine them
-abbrev pub oneOf : {w : World} → Beginning w → List ℕ
+abbrev pub oneOf : {w : World} → Beginning w → Bytes
 oneOf {w} b = messageOne (w .initiator .end .own) (b .id) (b .first) (b .second)
 
-abbrev pub twoOf : {w : World} (b : Beginning w) → Suits (w .responder .end .own) (oneOf b) → List ℕ
+abbrev pub twoOf : {w : World} (b : Beginning w) → Chooses (w .responder .end .own) (oneOf b) → Bytes
 twoOf {w} b s = messageTwo (w .responder .end .own) (b .id) (s .transforms) (setNumbered (s .number) (bodyAt 1 (oneOf b))) (b .first) (b .second)
 
-abbrev pub threeOf : {w : World} → Beginning w → List ℕ
+abbrev pub threeOf : {w : World} → Beginning w → Bytes
 threeOf {w} b = messageThree (w .initiator .end .own) (b .id)
 
 -- message m arrives at p, equal apart from the hash: "hashes are good, buffers full size", and p has not given up
-pub record Arrives (m : List ℕ) (p : Party) : Type 0 where
-  pub bytes : List ℕ
-  pub output : List ℕ
+pub record Arrives (m : Bytes) (p : Party) : Type 0 where
+  pub bytes : Bytes
+  pub output : Bytes
   pub equals : alike bytes m ≡ true
   pub full : FullSize p output
   pub up : stateOf p ≡ GivenUp → ⊥
 
-abbrev pub delivery : {m : List ℕ} {p : Party} → Arrives m p → Call
+abbrev pub delivery : {m : Bytes} {p : Party} → Arrives m p → Call
 delivery x = deliver (x .bytes) true (x .output)

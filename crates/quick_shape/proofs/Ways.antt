@@ -9,11 +9,11 @@ use Rattle.message_chain.specs.Message.{message}
 use Rattle.message_chain.specs.declared.Message.{Message}
 use Rattle.message_chain.specs.declared.Message.the-variants.{Refused, Read}
 use Rattle.policy_choice.specs.Choice.{bodyAt}
-use Rattle.quick_shape.specs.Shapes.{kindIs, shape, isLonger, nonceRead, nonceIn}
+use Rattle.quick_shape.specs.Shapes.{typeIs, shape, isLonger, nonceRead, nonceIn}
 
 -- ---- shape
 
-module _ (count : ℕ) (m : List ℕ) (k1 k2 k3 k4 k0 : Bool) (e1 : k1 ≡ kindIs 1 m 1) (e2 : k2 ≡ kindIs 2 m 10) (e3 : k3 ≡ kindIs 3 m 5) (e4 : k4 ≡ kindIs 4 m 5) (e0 : k0 ≡ kindIs 0 m 8) where
+module _ (count : ℕ) (m : List ℕ) (k1 k2 k3 k4 k0 : Bool) (e1 : k1 ≡ typeIs 1 m 1) (e2 : k2 ≡ typeIs 2 m 10) (e3 : k3 ≡ typeIs 3 m 5) (e4 : k4 ≡ typeIs 4 m 5) (e0 : k0 ≡ typeIs 0 m 8) where
   pub shape-known : (k0 && (eqb count 1 || k1 && k2 && (eqb count 3 || eqb count 5 && k3 && k4))) ≡ true → count ≡ shape count m
   unfolding shape
   shape-known h = rw (← e0, ← e1, ← e2, ← e3, ← e4, h)

@@ -1,28 +1,28 @@
 // The shape of a message and what is read by it: whether two are equal apart from the hash, and the nonce. Every function takes any bytes.
-use quick_end::Role;
 use message_chain::Message;
 use message_chain::payload_at;
 use policy_choice::choose::body_at;
+use quick_end::Role;
 use wire_read::after;
 use wire_read::equal;
 use wire_read::front;
 ghost use mathlib.Core.Path.{_≡_};
-ghost use Rattle.quick_shape.specs.Shapes.{kindIs, shape, isLonger, alike, countOf, shapeOf, nonceRead, nonceIn, nonce};
+ghost use Rattle.quick_shape.specs.Shapes.{typeIs, shape, isLonger, alike, countOf, shapeOf, nonceRead, nonceIn, nonce};
 
-fn kind_is(k: u8, m: &[u8], kind: u8) -> bool
-    ensures { λ r. ⌜ r ≡ kindIs k (now (m .entry)) kind ⌝ }
+fn type_is(k: u8, m: &[u8], payloadtype: u8) -> bool
+    ensures { λ r. ⌜ r ≡ typeIs k (now (m .entry)) payloadtype ⌝ }
 {
     let p = payload_at(m, k);
-    p.kind == kind
+    p.payloadtype == payloadtype
 }
 
 // The count of payloads where their types are those of a quick mode message, else 0.
 pub fn shape(count: u8, m: &[u8]) -> u8
     ensures { λ r. ⌜ r ≡ shape count (now (m .entry)) ⌝ }
 {
-    let longer = kind_is(1, m, 1) & kind_is(2, m, 10);
-    let identities = (count == 5) & kind_is(3, m, 5) & kind_is(4, m, 5);
-    if kind_is(0, m, 8) & ((count == 1) | longer & ((count == 3) | identities)) {
+    let longer = type_is(1, m, 1) & type_is(2, m, 10);
+    let identities = (count == 5) & type_is(3, m, 5) & type_is(4, m, 5);
+    if type_is(0, m, 8) & ((count == 1) | longer & ((count == 3) | identities)) {
         count
     } else {
         0

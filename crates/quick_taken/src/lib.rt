@@ -1,18 +1,18 @@
 // Message 2 against the message that was sent: whether it is taken, and what is agreed by it. Every function takes any bytes.
+use policy_choice::choose::body_at;
 use quick_agreed::spis_of;
 use quick_agreed::transforms_in;
 use quick_end::Agreed;
+use quick_shape::shape_of;
 use sa_fields::proposal_number;
 use sa_fields::protocol;
 use sa_fields::transform_count;
 use sa_items::proposal;
 use sa_items::proposal_count;
 use sa_items::transform;
-use policy_choice::choose::body_at;
 use sa_sets::set;
 use sa_sets::set_count;
 use sa_sets::set_numbered;
-use quick_shape::shape_of;
 use wire_read::equal;
 ghost use mathlib.Core.Path.{_≡_};
 ghost use Rattle.quick_taken.specs.Taken.{proposalTaken, setTaken, repliedSet, offeredSet, identitiesSame, takenCode, agreedTwo};

@@ -1,8 +1,8 @@
 -- A tick, document 01, "Quick mode ends": what it answers, and the record and the lent buffers after it.
-use Prim.Native.Nat.{ℕ, _+_}
-use mathlib.Core.List.{List}
+use Prim.Native.Nat.{_+_}
 use mathlib.Core.Bool.{Bool, true, false, not}
 use lib.Dec.{ltb, eqb}
+use Rattle.wire_read.specs.Wire.{Bytes, Code}
 use Rattle.wire_read.specs.Tests.{if_then_else_}
 use Rattle.quick_end.specs.Fresh.{isIdle, isGivenUp}
 use Rattle.quick_step.specs.Steps.{After, small, withState, refusing, nothing, repeating}
@@ -12,10 +12,10 @@ use Rattle.quick_end.specs.declared.Progress.{Progress}
 use Rattle.quick_end.specs.declared.End.{End}
 
 -- "8192, 8196, Idle 8195"
-unfoldable pub tickCode : State → Bool → ℕ
+unfoldable pub tickCode : (state : State) (isSmall : Bool) → Code
 tickCode state isSmall = if isSmall then 8192 else if isGivenUp state then 8196 else if isIdle state then 8195 else 0
 
-unfoldable pub oneMore : Progress → Progress
+unfoldable pub oneMore : (progress : Progress) → Progress
 oneMore progress = record {
   state = progress .state;
   sends = progress .sends + 1;
@@ -25,7 +25,7 @@ oneMore progress = record {
   agreed = progress .agreed;
 }
 
-unfoldable pub isOpen : State → Bool
+unfoldable pub isOpen : (state : State) → Bool
 isOpen Open = true
 isOpen Idle = false
 isOpen Sent = false
@@ -33,7 +33,7 @@ isOpen Half = false
 isOpen GivenUp = false
 
 -- "Open nothing; Sent or Half sends its kept message again, up to four sends, and the next tick is GivenUp with nothing to send"
-unfoldable pub ticked : End → List ℕ → List ℕ → List ℕ → After
+unfoldable pub ticked : (end : End) (sent got output : Bytes) → After
 ticked end sent got output =
     if not (eqb (tickCode (end .progress .state) (small sent got output)) 0)
     then refusing end sent got output (tickCode (end .progress .state) (small sent got output))

@@ -15,7 +15,7 @@ use Rattle.policy_suits.specs.Suits.{quickId}
 use Rattle.policy_reply.specs.Reply.{ownSpi, proposalOf, setReply, saOf}
 use Rattle.policy_reply.proofs.ReplyWays.{proposal-size, set-size, sa-size, sa-written}
 use Rattle.policy_choice.specs.declared.Transforms.{Transforms}
-use Rattle.quick_write.specs.Messages.{bookOf, nonceOf, fixed, integrity, attributes, transformOne, lineProposal, lineSet, nextSet, lineSets, lines, offerOf, hash, padding, padded, header, messageOf, around, nonceAndIdentities, proposalsOf, longer, tooLong, longerInto, messageThree}
+use Rattle.quick_write.specs.Messages.{bookOf, nonceOf, fixed, authentication, attributes, transformOne, lineProposal, lineSet, nextSet, lineSets, lines, offerOf, hash, padding, padded, header, messageOf, around, nonceAndIdentities, proposalsOf, longer, tooLong, longerInto, messageThree}
 use Rattle.quick_end.specs.declared.Own.{Own}
 use Rattle.quick_write.specs.declared.Proposals.{Proposals}
 use Rattle.quick_write.specs.declared.Proposals.the-variants.{Offer, Reply}
@@ -61,18 +61,18 @@ header-written own id size l b1 b2 b3 b4 b5 e1 e2 e3 e4 e5 =
 
 -- ---- an offer's proposals
 
-module _ (l b : List ℕ) (at ah esp next protocol i r : ℕ) (book : List ℕ) (kind mode seconds protocols : ℕ) (ek : kind ≡ quickId protocol) (em : mode ≡ quickMode i book) (es : seconds ≡ quickSeconds i book)
+module _ (l b : List ℕ) (at ah esp next protocol i r : ℕ) (book : List ℕ) (id mode seconds protocols : ℕ) (ek : id ≡ quickId protocol) (em : mode ≡ quickMode i book) (es : seconds ≡ quickSeconds i book)
     (ep : protocols ≡ quickProtocols i book) where
   pub line-short : (eqb protocols 2 && eqb protocol 3) ≡ true →
-      put l at (proposalOf next (i + 1) protocol (ownSpi ah esp protocol) (0 ∷ 0 ∷ 0 ∷ 0 ∷ 1 ∷ kind ∷ 0 ∷ 0 ∷ 0x80 ∷ 4 ∷ 0 ∷ mode ∷ 0x80 ∷ 1 ∷ 0 ∷ 1 ∷ 0x80 ∷ 2 ∷ seconds / 256 % 256 ∷ seconds % 256 ∷ [])) ≡ (r, b) →
+      put l at (proposalOf next (i + 1) protocol (ownSpi ah esp protocol) (0 ∷ 0 ∷ 0 ∷ 0 ∷ 1 ∷ id ∷ 0 ∷ 0 ∷ 0x80 ∷ 4 ∷ 0 ∷ mode ∷ 0x80 ∷ 1 ∷ 0 ∷ 1 ∷ 0x80 ∷ 2 ∷ seconds / 256 % 256 ∷ seconds % 256 ∷ [])) ≡ (r, b) →
       put l at (lineProposal ah esp next protocol i book) ≡ (r, b)
-  unfolding lineProposal proposalOf transformOne attributes fixed integrity headed head bytesOf
+  unfolding lineProposal proposalOf transformOne attributes fixed authentication headed head bytesOf
   line-short h e = rw (← ek, ← em, ← es, ← ep, h) e
 
   pub line-long : (eqb protocols 2 && eqb protocol 3) ≡ false →
-      put l at (proposalOf next (i + 1) protocol (ownSpi ah esp protocol) (0 ∷ 0 ∷ 0 ∷ 0 ∷ 1 ∷ kind ∷ 0 ∷ 0 ∷ 0x80 ∷ 4 ∷ 0 ∷ mode ∷ 0x80 ∷ 5 ∷ 0 ∷ 20 ∷ 0x80 ∷ 1 ∷ 0 ∷ 1 ∷ 0x80 ∷ 2 ∷ seconds / 256 % 256 ∷ seconds % 256 ∷ [])) ≡ (r, b) →
+      put l at (proposalOf next (i + 1) protocol (ownSpi ah esp protocol) (0 ∷ 0 ∷ 0 ∷ 0 ∷ 1 ∷ id ∷ 0 ∷ 0 ∷ 0x80 ∷ 4 ∷ 0 ∷ mode ∷ 0x80 ∷ 5 ∷ 0 ∷ 20 ∷ 0x80 ∷ 1 ∷ 0 ∷ 1 ∷ 0x80 ∷ 2 ∷ seconds / 256 % 256 ∷ seconds % 256 ∷ [])) ≡ (r, b) →
       put l at (lineProposal ah esp next protocol i book) ≡ (r, b)
-  unfolding lineProposal proposalOf transformOne attributes fixed integrity headed head bytesOf
+  unfolding lineProposal proposalOf transformOne attributes fixed authentication headed head bytesOf
   line-long h e = rw (← ek, ← em, ← es, ← ep, h) e
 
 -- ---- how long an offer is
@@ -83,17 +83,17 @@ spi-few ah esp protocol =
     by-test (eqb protocol 2) (λ e. rw e (omega (arith, length-bytesOf 4 ah)))
     (λ e. by-test (eqb protocol 3) (λ f. rw (e, f) (omega (arith, length-bytesOf 4 esp))) (λ f. rw (e, f) (omega arith)))
 
-integrity-few : (protocols protocol : ℕ) → length (integrity protocols protocol) ≤ 4
-unfolding integrity fixed
-integrity-few protocols protocol = by-test (eqb protocols 2 && eqb protocol 3) (λ e. rw e (omega arith)) (λ e. rw e (omega arith))
+authentication-few : (protocols protocol : ℕ) → length (authentication protocols protocol) ≤ 4
+unfolding authentication fixed
+authentication-few protocols protocol = by-test (eqb protocols 2 && eqb protocol 3) (λ e. rw e (omega arith)) (λ e. rw e (omega arith))
 
 transform-few : (protocol i : ℕ) (book : List ℕ) → length (drop 4 (transformOne protocol i book)) ≤ 20
 unfolding transformOne attributes fixed headed head bytesOf
 transform-few protocol i book =
     omega (
       arith,
-      length-append (integrity (quickProtocols i book) protocol) (0x80 ∷ 1 ∷ 0 ∷ 1 ∷ 0x80 ∷ 2 ∷ quickSeconds i book / 256 % 256 ∷ quickSeconds i book % 256 ∷ []),
-      integrity-few (quickProtocols i book) protocol,
+      length-append (authentication (quickProtocols i book) protocol) (0x80 ∷ 1 ∷ 0 ∷ 1 ∷ 0x80 ∷ 2 ∷ quickSeconds i book / 256 % 256 ∷ quickSeconds i book % 256 ∷ []),
+      authentication-few (quickProtocols i book) protocol,
     )
 
 proposal-few : (ah esp next protocol i : ℕ) (book : List ℕ) → length (lineProposal ah esp next protocol i book) ≤ 36

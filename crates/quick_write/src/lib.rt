@@ -1,19 +1,19 @@
 // The three messages that the ends write.
+use policy_choice::Transforms;
 use policy_lines::quick_count;
 use policy_lines::quick_mode;
 use policy_lines::quick_protocols;
 use policy_lines::quick_seconds;
+use policy_reply::put_proposal;
+use policy_reply::put_reply;
+use policy_suits::quick_id;
 use quick_end::Own;
 use sa_fields::ProposalNumber;
-use policy_choice::Transforms;
+use wire_read::front;
 use wire_write::put_be32;
 use wire_write::put_bytes;
 use wire_write::put_head;
 use wire_write::put_headed;
-use policy_reply::put_proposal;
-use policy_reply::put_reply;
-use policy_suits::quick_id;
-use wire_read::front;
 ghost use mathlib.Core.Path.{_≡_};
 ghost use Prim.Native.Nat.{min, _+_, _*_, _≤_};
 ghost use lib.ListN.{length, replicate};
@@ -78,7 +78,7 @@ fn put_line_proposal(
     ensures { λ r. ⌜ put (now (buffer .entry)) at (lineProposal ah esp next protocol i (now (book .entry))) ≡ (r, now (buffer .exit)) ⌝ }
 {
     let number = ProposalNumber(i + 1);
-    let kind = quick_id(protocol);
+    let id = quick_id(protocol);
     let mode = quick_mode(i, book);
     let seconds = quick_seconds(i, book);
     let high = (seconds / 256 % 256) as u8;
@@ -90,7 +90,7 @@ fn put_line_proposal(
             0,
             0,
             1,
-            kind,
+            id,
             0,
             0,
             0x80,
@@ -114,7 +114,7 @@ fn put_line_proposal(
         0,
         0,
         1,
-        kind,
+        id,
         0,
         0,
         0x80,

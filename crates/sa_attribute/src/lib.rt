@@ -38,8 +38,8 @@ fn after_attribute(s: &[u8]) -> &[u8]
     after(s, attribute_size(s))
 }
 
-fn find(most: u8, kind: u16, s: &[u8]) -> &[u8]
-    ensures { λ r. ⌜ now r ≡ find most kind (now (s .entry)) ⌝ }
+fn find(most: u8, attributetype: u16, s: &[u8]) -> &[u8]
+    ensures { λ r. ⌜ now r ≡ find most attributetype (now (s .entry)) ⌝ }
 {
     let mut left = most;
     let mut at: usize = 0;
@@ -49,7 +49,7 @@ fn find(most: u8, kind: u16, s: &[u8]) -> &[u8]
             return front(s, 0);
         }
         let n = attribute_size(here);
-        if attribute_type(here) == kind {
+        if attribute_type(here) == attributetype {
             return front(here, n);
         }
         if here.len() < n {
@@ -62,10 +62,10 @@ fn find(most: u8, kind: u16, s: &[u8]) -> &[u8]
 }
 
 // The attribute of a type in a transform's attributes; no bytes where there is none.
-pub fn attribute(kind: u16, s: &[u8]) -> &[u8]
-    ensures { λ r. ⌜ now r ≡ attribute kind (now (s .entry)) ⌝ }
+pub fn attribute(attributetype: u16, s: &[u8]) -> &[u8]
+    ensures { λ r. ⌜ now r ≡ attribute attributetype (now (s .entry)) ⌝ }
 {
-    find(16, kind, s)
+    find(16, attributetype, s)
 }
 
 // The number that an attribute's value spells, of 4 bytes at most.

@@ -15,16 +15,16 @@ fn out_of_bounds(s: &[u8]) -> bool
     (s.len() < 4) | (s.len() < attribute_size(s))
 }
 
-fn must_be_fixed(exchange: u8, kind: u16) -> bool
-    ensures { λ r. ⌜ r ≡ mustBeFixed exchange kind ⌝ }
+fn must_be_fixed(exchange: u8, attributetype: u16) -> bool
+    ensures { λ r. ⌜ r ≡ mustBeFixed exchange attributetype ⌝ }
 {
     (exchange == 2)
-        & ((1 <= kind) & (kind <= 5)
-            | (kind == 11)
-            | (13 <= kind) & (kind <= 15)
-            | (kind == 17)
-            | (kind == 20))
-        | (exchange == 32) & ((kind == 1) | (3 <= kind) & (kind <= 8))
+        & ((1 <= attributetype) & (attributetype <= 5)
+            | (attributetype == 11)
+            | (13 <= attributetype) & (attributetype <= 15)
+            | (attributetype == 17)
+            | (attributetype == 20))
+        | (exchange == 32) & ((attributetype == 1) | (3 <= attributetype) & (attributetype <= 8))
 }
 
 fn fixed_wrong(exchange: u8, s: &[u8]) -> bool
@@ -33,10 +33,10 @@ fn fixed_wrong(exchange: u8, s: &[u8]) -> bool
     must_be_fixed(exchange, attribute_type(s)) & !sent_fixed(s)
 }
 
-fn is_duration(exchange: u8, kind: u16) -> bool
-    ensures { λ r. ⌜ r ≡ isDuration exchange kind ⌝ }
+fn is_duration(exchange: u8, attributetype: u16) -> bool
+    ensures { λ r. ⌜ r ≡ isDuration exchange attributetype ⌝ }
 {
-    (exchange == 2) & (kind == 12) | (exchange == 32) & (kind == 2)
+    (exchange == 2) & (attributetype == 12) | (exchange == 32) & (attributetype == 2)
 }
 
 fn duration_wrong(exchange: u8, s: &[u8]) -> bool

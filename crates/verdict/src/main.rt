@@ -47,7 +47,7 @@ fn payloads(m: &[u8], count: u8) {
 }
 
 fn payload(p: Payload) {
-    labelled(b"payload ", p.kind as u64);
+    labelled(b"payload ", p.payloadtype as u64);
     labelled(b" at ", p.start as u64);
     labelled(b" length ", p.length as u64);
     end_line();

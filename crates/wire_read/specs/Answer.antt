@@ -9,12 +9,12 @@ pub record Answer : Type 0 where
   pub number : ℕ
   pub values : List ℕ
 
-abbrev pub done : List ℕ → Answer
+abbrev pub done : (values : List ℕ) → Answer
 done values = record { number = 0; values = values }
 
-abbrev pub refused : ℕ → Answer
+abbrev pub refused : (number : ℕ) → Answer
 refused number = record { number = number; values = [] }
 
 -- an answer that is yes or no
-abbrev pub told : Bool → Answer
+abbrev pub told : (b : Bool) → Answer
 told b = done ((if b then 1 else 0) ∷ [])

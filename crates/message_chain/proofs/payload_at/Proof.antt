@@ -8,10 +8,10 @@ use Rattle.message_chain.proofs.payload_at.Statement.{statement}
 use Rattle.message_chain.proofs.payload_at.Tie as tie
 
 abbrev Inv-loop : tie.InvT-loop
-Inv-loop m k kind₀ start₀ i₀ kind start i = (i ≤ k) × ((start ≤ 28 + 65535 * i) × (walk (k - i) kind start m ≡ payloadAt k m))
+Inv-loop m k payloadtype₀ start₀ i₀ payloadtype start i = (i ≤ k) × ((start ≤ 28 + 65535 * i) × (walk (k - i) payloadtype start m ≡ payloadAt k m))
 
 abbrev μ-loop : tie.MeasureT-loop
-μ-loop m k kind₀ start₀ i₀ kind start i = k - i
+μ-loop m k payloadtype₀ start₀ i₀ payloadtype start i = k - i
 
 pub payload-at-spec : {M : Type 1} → statement M
 payload-at-spec =

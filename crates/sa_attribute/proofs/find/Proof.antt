@@ -11,10 +11,10 @@ use Rattle.sa_attribute.proofs.find.Statement.{statement}
 use Rattle.sa_attribute.proofs.find.Tie as tie
 
 abbrev Inv-loop : tie.InvT-loop
-Inv-loop most kind s left₀ at₀ left at = find left kind (drop at s) ≡ find most kind s
+Inv-loop most attributetype s left₀ at₀ left at = find left attributetype (drop at s) ≡ find most attributetype s
 
 abbrev μ-loop : tie.MeasureT-loop
-μ-loop most kind s left₀ at₀ left at = left
+μ-loop most attributetype s left₀ at₀ left at = left
 
 pub find-spec : {M : Type 1} → statement M
 find-spec =
