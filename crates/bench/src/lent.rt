@@ -7,7 +7,7 @@ use crate::number::Number;
 use crate::say;
 use crate::say::append;
 use crate::words;
-use sequence_record::fresh;
+use sequence_record::new_receive;
 use sequence_record::loss_line;
 use sequence_record::step_lent;
 use wire_read::equal;
@@ -15,7 +15,7 @@ use wire_read::equal;
 pub(crate) fn new_or_loss(line: &[u8], out: &mut [u8], mut state: State) -> State {
     let asked = words::nth(line, 1);
     if equal(asked, b"new") {
-        state.lent = fresh();
+        state.lent = new_receive();
         state.said = append(out, state.said, b"done");
     } else if equal(asked, b"loss") {
         state.said = say::loss_line(out, state.said, loss_line(state.lent));

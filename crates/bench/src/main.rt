@@ -26,7 +26,7 @@ use say::append;
 use seats::Kept;
 use seats::Seats;
 use sequence_record::Receive;
-use sequence_record::fresh;
+use sequence_record::new_receive;
 use sequence_table::table::ROOMS;
 use sequence_table::table::Table;
 use sequence_table::table::WORDS;
@@ -84,7 +84,7 @@ fn run(
         line: 0,
         said: 0,
         going: true,
-        lent: fresh(),
+        lent: new_receive(),
         ends: seats::absent(),
     };
     // A proved loop has to end: no run uses this number up.

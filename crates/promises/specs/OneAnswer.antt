@@ -211,8 +211,8 @@ use Rattle.sequence_packet.proofs.known.Kinds as packets-known-kinds
 use Rattle.sequence_packet.proofs.known.Reads as packets-known-reads
 use Rattle.sequence_packet.proofs.read.Kinds as packets-read-kinds
 use Rattle.sequence_packet.proofs.read.Reads as packets-read-reads
-use Rattle.sequence_record.proofs.fresh.Kinds as receive-fresh-kinds
-use Rattle.sequence_record.proofs.fresh.Reads as receive-fresh-reads
+use Rattle.sequence_record.proofs.new_receive.Kinds as receive-new-receive-kinds
+use Rattle.sequence_record.proofs.new_receive.Reads as receive-new-receive-reads
 use Rattle.sequence_record.proofs.step.Kinds as receive-step-kinds
 use Rattle.sequence_record.proofs.step.Reads as receive-step-reads
 use Rattle.sequence_record.proofs.loss_line.Kinds as receive-loss-line-kinds
@@ -534,8 +534,8 @@ packets-known κs arguments x y s t p q = p ∙ sym q
 pub packets-read : OneAnswer 1 packets-read-kinds.ps packets-read-kinds.r (λ κs x s. x) packets-read-reads.Post
 packets-read κs arguments x y s t p q = p ∙ sym q
 
-pub receive-fresh : OneAnswer 0 receive-fresh-kinds.ps receive-fresh-kinds.r (λ κs x s. x) receive-fresh-reads.Post
-receive-fresh κs arguments x y s t p q = p ∙ sym q
+pub receive-new-receive : OneAnswer 0 receive-new-receive-kinds.ps receive-new-receive-kinds.r (λ κs x s. x) receive-new-receive-reads.Post
+receive-new-receive κs arguments x y s t p q = p ∙ sym q
 
 pub receive-step : OneAnswer 0 receive-step-kinds.ps receive-step-kinds.r (λ κs x s. x) receive-step-reads.Post
 receive-step κs arguments x y s t p q = p ∙ sym q

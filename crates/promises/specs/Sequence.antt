@@ -1,4 +1,4 @@
--- Sequence numbers, in the demands' words. The definitions are those of History; the proofs stand in the other Sequence files.
+-- Sequence numbers, in the demands' words. Definitions and proofs stand in crates/sequence_history.
 use Prim.Native.Nat.{ℕ, _*_, _<_}
 use mathlib.Core.Path.{_≡_, ap}
 use mathlib.Core.Bool.{Bool, false}
@@ -7,9 +7,9 @@ use lib.ListN.{length}
 use Rattle.sequence_packet.specs.declared.Packet.the-variants.{Read}
 use Rattle.sequence_table.specs.declared.table.Key.{Key}
 use Rattle.sequence_table.specs.declared.table.Outcome.the-variants.{Done}
-use Rattle.sequence_record.specs.Receive.{fresh}
+use Rattle.sequence_record.specs.Receive.{newReceive}
 use Rattle.sequence_packet.specs.Packets.{read}
-use Rattle.sequence_table.specs.Table.{rooms, words, empty, find, entryAt, added}
+use Rattle.sequence_table.specs.Table.{Table, rooms, words, empty, find, entryAt, added}
 use Rattle.wire_read.specs.Answer.{done}
 use Rattle.sequence_history.specs.History.{Call, shows, sends, asks, isDone, keyOf, accepted, handed, rightNumber, answered, answeredAll, rightAll, Distinct, countdown, isAdding, Carries, tableVerdicts, lentVerdicts}
 use Rattle.sequence_history.proofs.Runs as Runs
@@ -32,7 +32,7 @@ pub sending-once : (calls : List Call) (key : Key) → Distinct (handed key (ans
 sending-once = Runs.sending-once
 
 -- A new life of a key starts empty, whatever the table's words were: its loss line, its first number for sending, its packets.
-module _ (t u : List ℕ) (key : Key) (long : length t ≡ rooms * words) (adding : added t key ≡ (Done, u)) where
+module _ (t u : Table) (key : Key) (long : length t ≡ rooms * words) (adding : added t key ≡ (Done, u)) where
   pub new-loss : answered u (asks key) .0 ≡ done (0 ∷ 0 ∷ 0 ∷ [])
   new-loss = Keys.new-loss t u key long adding
 
@@ -45,22 +45,22 @@ module _ (t u : List ℕ) (key : Key) (long : length t ≡ rooms * words) (addin
 
 -- A call on one key changes nothing that can be asked of another, whatever the table's words are. (Adding another key may find the table
 -- full: that is asked of the table.)
-pub other-keys : (t : List ℕ) → length t ≡ rooms * words → (c asked : Call) → (keyOf c ≡ keyOf asked → ⊥) → isAdding asked ≡ false →
+pub other-keys : (t : Table) → length t ≡ rooms * words → (c asked : Call) → (keyOf c ≡ keyOf asked → ⊥) → isAdding asked ≡ false →
     answered (answered t c .1) asked .0 ≡ answered t asked .0
 other-keys = Keys.other-keys
 
 -- The lent record and the table give the same verdicts: from the entry of any life on, and from a life's beginning.
 pub lent-same : (key : Key) (packets : List (Bool × List ℕ)) (numbers : List (Bool × ℕ)) → Carries key packets numbers →
-    (t : List ℕ) → length t ≡ rooms * words → find t key < rooms → tableVerdicts t key packets ≡ lentVerdicts (entryAt t (find t key) .receive) numbers
+    (t : Table) → length t ≡ rooms * words → find t key < rooms → tableVerdicts t key packets ≡ lentVerdicts (entryAt t (find t key) .receive) numbers
 lent-same = Keys.lent-same
 
-pub lent-from-fresh : (key : Key) (packets : List (Bool × List ℕ)) (numbers : List (Bool × ℕ)) → Carries key packets numbers →
-    (t u : List ℕ) → length t ≡ rooms * words → added t key ≡ (Done, u) → tableVerdicts u key packets ≡ lentVerdicts fresh numbers
-lent-from-fresh = Keys.lent-from-fresh
+pub lent-from-new : (key : Key) (packets : List (Bool × List ℕ)) (numbers : List (Bool × ℕ)) → Carries key packets numbers →
+    (t u : Table) → length t ≡ rooms * words → added t key ≡ (Done, u) → tableVerdicts u key packets ≡ lentVerdicts newReceive numbers
+lent-from-new = Keys.lent-from-new
 
 -- A refusal changes nothing, and the same call again is refused again: a sending counter at its end stays there.
-pub refused-nothing : (t : List ℕ) (c : Call) → isDone (answered t c .0) ≡ false → answered t c .1 ≡ t
+pub refused-nothing : (t : Table) (c : Call) → isDone (answered t c .0) ≡ false → answered t c .1 ≡ t
 refused-nothing = Keys.refused-nothing
 
-pub refused-again : (t : List ℕ) (c : Call) → isDone (answered t c .0) ≡ false → answered (answered t c .1) c ≡ answered t c
-refused-again t c h = ap (λ (u : List ℕ). answered u c) (Keys.refused-nothing t c h)
+pub refused-again : (t : Table) (c : Call) → isDone (answered t c .0) ≡ false → answered (answered t c .1) c ≡ answered t c
+refused-again t c h = ap (λ (u : Table). answered u c) (Keys.refused-nothing t c h)

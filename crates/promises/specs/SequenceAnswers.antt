@@ -13,16 +13,16 @@ use Rattle.sequence_table.specs.declared.table.Sending.the-variants as Sendings
 use Rattle.sequence_table.specs.declared.table.Counted.{Counted}
 use Rattle.sequence_table.specs.declared.table.Counted.the-variants as Counts
 use Rattle.sequence_record.specs.declared.Verdict.the-variants as Verdicts
-use Rattle.sequence_record.specs.Receive.{answer}
-use Rattle.sequence_packet.specs.Packets.{answer as packetAnswer}
+use Rattle.sequence_record.specs.Receive.{verdictAnswer}
+use Rattle.sequence_packet.specs.Packets.{packetAnswer}
 use Rattle.sequence_table.specs.Table.{outcomeAnswer, sendingAnswer, countedAnswer}
 
 -- what equal answers share
 pub parts : (a b : Answer) → a ≡ b → (a .number ≡ b .number) × (a .values ≡ b .values)
 parts a b e = (ap (λ (x : Answer). x .number) e, ap (λ (x : Answer). x .values) e)
 
-pub verdict-own : (x y : Verdict) → answer x ≡ answer y → x ≡ y
-unfolding answer
+pub verdict-own : (x y : Verdict) → verdictAnswer x ≡ verdictAnswer y → x ≡ y
+unfolding verdictAnswer
 verdict-own Verdicts.Accepted Verdicts.Accepted h = refl
 verdict-own Verdicts.Accepted (Verdicts.Refused m) h = let e = parts _ _ h in never (cc)
 verdict-own (Verdicts.Refused n) Verdicts.Accepted h = let e = parts _ _ h in never (cc)
@@ -51,7 +51,8 @@ sending-own (Sendings.Refused n) (Sendings.Refused m) h = let e = parts _ _ h in
 
 pub counted-own : (x y : Counted) → countedAnswer x ≡ countedAnswer y → x ≡ y
 unfolding countedAnswer
-counted-own (Counts.Line k) (Counts.Line l) h = ap (λ (a : Answer). Counts.Line (record { highest = getD (a .values) 0 0; span = getD (a .values) 1 0; count = getD (a .values) 2 0 })) h
+counted-own (Counts.Line k) (Counts.Line l) h =
+    ap (λ (a : Answer). Counts.Line (record { highest = getD (a .values) 0 0; span = getD (a .values) 1 0; count = getD (a .values) 2 0 })) h
 counted-own (Counts.Line k) (Counts.Refused m) h = let e = parts _ _ h in never (cc)
 counted-own (Counts.Refused n) (Counts.Line l) h = let e = parts _ _ h in never (cc)
 counted-own (Counts.Refused n) (Counts.Refused m) h = let e = parts _ _ h in cc

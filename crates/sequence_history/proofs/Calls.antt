@@ -8,7 +8,6 @@ use native.Mathlib.Omega.{arith}
 use borrow.Author.Tests.{le-leb, lt-leb, leb-false, ltb-true, ltb-false}
 use lib.ListN.{length}
 use lib.Dec.{eqb, leb, ltb}
-use Rattle.wire_read.specs.Wire.{numberAt}
 use Rattle.wire_read.specs.Tests.{if_then_else_}
 use Rattle.wire_read.specs.Answer.{Answer, refused, done}
 use Rattle.wire_read.proofs.Tests.{never, by-test}
@@ -18,24 +17,24 @@ use Rattle.sequence_packet.specs.declared.Packet.{Packet}
 use Rattle.sequence_packet.specs.declared.Packet.the-variants.{Read, Refused}
 use Rattle.sequence_table.specs.declared.table.Key.{Key}
 use Rattle.sequence_table.specs.declared.table.Entry.{Entry}
-use Rattle.sequence_record.specs.Receive.{judged, answer}
-use Rattle.sequence_packet.specs.Packets.{known, ahSize, ah, esp, read}
-use Rattle.sequence_table.specs.Table.{rooms, empty, find, free, entryAt, putEntry, emptied, added, removed, judgedAt, packetRead, packet, handedOut, sent, loss, outcomeAnswer, sendingAnswer, countedAnswer}
+use Rattle.sequence_record.specs.Receive.{judged, verdictAnswer}
+use Rattle.sequence_packet.specs.Packets.{ahReserved, ahSpi, ahNumber, espSpi, espNumber, known, ahSize, ah, esp, read}
+use Rattle.sequence_table.specs.Table.{Table, rooms, empty, find, free, emptied, withReceive, withCounter, entryAt, putEntry, added, removed, judgedAt, packetRead, packet, handedOut, nextToSend, loss, outcomeAnswer, sendingAnswer, countedAnswer}
 use Rattle.sequence_history.specs.History.{Call, adds, removes, shows, sends, asks, Event, isDone, same, keyOf, lives, accepted, handed, entries, highest, recent, rightNumber, rightPacket, right, answered}
 use Rattle.sequence_history.proofs.Record.{Shows, one-step, count-right, after}
 use Rattle.sequence_history.proofs.Table.{begun, Life, Keeps, keeps-none, keeps-entry, keeps-added, keeps-removed, keeps-said, same-self, same-not, full-taken}
 
-abbrev pub lifeOf : List Event → Key → Life
+abbrev pub lifeOf : (past : List Event) (key : Key) → Life
 lifeOf past key = record { lives = lives key past; accepted = accepted key past; handed = handed key past }
 
-abbrev pub Keeping : List ℕ → List Event → Type 0
+abbrev pub Keeping : (t : Table) (past : List Event) → Type 0
 Keeping t past = Keeps t (lifeOf past) (entries past)
 
 -- the call is answered rightly, and the table keeps what then has come before
-abbrev pub Rightly : List ℕ → List Event → Call → Type 0
+abbrev pub Rightly : (t : Table) (past : List Event) (c : Call) → Type 0
 Rightly t past c = (answered t c .0 ≡ right past c) × Keeping (answered t c .1) (record { call = c; answer = right past c } ∷ past)
 
-rightly : (t : List ℕ) (past : List Event) (c : Call) (a : Answer) (u : List ℕ) → answered t c ≡ (a, u) → right past c ≡ a →
+rightly : (t : Table) (past : List Event) (c : Call) (a : Answer) (u : Table) → answered t c ≡ (a, u) → right past c ≡ a →
     Keeping u (record { call = c; answer = a } ∷ past) → Rightly t past c
 rightly t past c a u e r k = rw (e, r) (refl, k)
 
@@ -49,10 +48,10 @@ leb-not x =
 pub unread : (protocol : ℕ) (s : List ℕ) (n : ℕ) → read protocol s ≡ Refused n → eqb n 0 ≡ false
 unfolding read ah esp
 unread protocol s n =
-    of (not (known protocol)) (eqb protocol 2) (leb 12 (length s) && eqb (numberAt 2 s 2) 0 && leb 12 (ahSize s) && leb (ahSize s) (length s)) (leb 8 (length s))
+    of (not (known protocol)) (eqb protocol 2) (leb 12 (length s) && eqb (ahReserved s) 0 && leb 12 (ahSize s) && leb (ahSize s) (length s)) (leb 8 (length s))
   where
     of : (a b c d : Bool) →
-        (if a then Refused 10 else if b then (if c then Read (numberAt 4 s 4) (numberAt 4 s 8) else Refused 16) else (if d then Read (numberAt 4 s 0) (numberAt 4 s 4) else Refused 16)) ≡ Refused n →
+        (if a then Refused 10 else if b then (if c then Read (ahSpi s) (ahNumber s) else Refused 16) else (if d then Read (espSpi s) (espNumber s) else Refused 16)) ≡ Refused n →
         eqb n 0 ≡ false
     of true b c d h = let e : 10 ≡ n = cc in rw (← e)
     of false true true d h = never (cc)
@@ -60,7 +59,7 @@ unread protocol s n =
     of false false c true h = never (cc)
     of false false c false h = let e : 16 ≡ n = cc in rw (← e)
 
-module _ (t : List ℕ) (past : List Event) (k : Keeping t past) where
+module _ (t : Table) (past : List Event) (k : Keeping t past) where
   -- a refusal is nothing to any key
   quiet : (c : Call) (n : ℕ) → eqb n 0 ≡ false → Keeping t (record { call = c; answer = refused n } ∷ past)
   unfolding lives accepted handed entries
@@ -141,25 +140,25 @@ module _ (t : List ℕ) (past : List Event) (k : Keeping t past) where
           let e : Entry = entryAt t (find t key) in
           let j : Judged = judged (e .receive) number integrity in
           let a : Answer = rightNumber (accepted key past) number integrity in
-          let q : (answer (j .verdict) ≡ a) × Shows (j .receive) (after a number (accepted key past)) =
+          let q : (verdictAnswer (j .verdict) ≡ a) × Shows (j .receive) (after a number (accepted key past)) =
           one-step (e .receive) (accepted key past) (k .entry key here .shown) number integrity in
-          rightly t past c a (putEntry t (find t key) (record { receive = j .receive; sent = e .sent }))
+          rightly t past c a (putEntry t (find t key) (withReceive e (j .receive)))
           (rw (is, absent key, l, q .0))
           (rw (is, l))
           (keeps-said
-          (keeps-entry k key (lifeOf (now-past a)) (other-life a) here (record { receive = j .receive; sent = e .sent }) (ap (λ (x : Life). x .lives) (own-life a) ∙ l)
+          (keeps-entry k key (lifeOf (now-past a)) (other-life a) here (withReceive e (j .receive)) (ap (λ (x : Life). x .lives) (own-life a) ∙ l)
           (rw (own-life a) (record { shown = q .1; counts = k .entry key here .counts })))
           (λ b. refl) (same-entries a))
 
       read-rightly : Rightly t past c
-      unfolding answered right rightPacket packet packetRead answer
+      unfolding answered right rightPacket packet packetRead verdictAnswer
       read-rightly =
           by-test (lives key past)
           judged-rightly
           (λ l. rightly t past c (refused 11) t (rw (is, absent key, l)) (rw (is, l)) (quiet c 11 refl))
 
     unread-rightly : (n : ℕ) → read protocol s ≡ Refused n → Rightly t past c
-    unfolding answered right rightPacket packet packetRead answer
+    unfolding answered right rightPacket packet packetRead verdictAnswer
     unread-rightly n is = rightly t past c (refused n) t (rw is) (rw is) (quiet c n (unread protocol s n is))
 
     shows-rightly : Rightly t past c
@@ -179,25 +178,25 @@ module _ (t : List ℕ) (past : List Event) (k : Keeping t past) where
       abbrev last : ℕ
       last = length (handed key past)
 
-      counted-so : entryAt t (find t key) .sent ≡ last
+      counted-so : entryAt t (find t key) .counter ≡ last
       counted-so = k .entry key here .counts
 
-      abbrev sent-then : List Event
-      sent-then = record { call = sends key; answer = done ((last + 1) ∷ []) } ∷ past
+      abbrev past-then : List Event
+      past-then = record { call = sends key; answer = done ((last + 1) ∷ []) } ∷ past
 
-      hands-out : Keeping (putEntry t (find t key) (record { receive = entryAt t (find t key) .receive; sent = last + 1 })) sent-then
+      hands-out : Keeping (putEntry t (find t key) (withCounter (entryAt t (find t key)) (last + 1))) past-then
       unfolding lives accepted handed entries keyOf
       hands-out =
-          keeps-entry k key (lifeOf sent-then) (λ b d. rw (same-not key b d)) here (record { receive = entryAt t (find t key) .receive; sent = last + 1 }) (rw (same-self key) l)
+          keeps-entry k key (lifeOf past-then) (λ b d. rw (same-not key b d)) here (withCounter (entryAt t (find t key)) (last + 1)) (rw (same-self key) l)
           (rw (same-self key) (record { shown = k .entry key here .shown; counts = omega arith }))
 
-      sent-rightly : Rightly t past (sends key)
-      unfolding answered right sent handedOut sendingAnswer
-      sent-rightly =
+      hands-rightly : Rightly t past (sends key)
+      unfolding answered right nextToSend handedOut sendingAnswer
+      hands-rightly =
           by-test (leb 4294967295 last)
           (λ e. rightly t past (sends key) (refused 8198) t (rw (absent key, l, counted-so, e)) (rw (l, e)) (quiet (sends key) 8198 refl))
           (λ e.
-          rightly t past (sends key) (done ((last + 1) ∷ [])) (putEntry t (find t key) (record { receive = entryAt t (find t key) .receive; sent = last + 1 }))
+          rightly t past (sends key) (done ((last + 1) ∷ [])) (putEntry t (find t key) (withCounter (entryAt t (find t key)) (last + 1)))
           (rw (absent key, l, counted-so, e)) (rw (l, e)) hands-out)
 
       asked-rightly : Rightly t past (asks key)
@@ -211,9 +210,9 @@ module _ (t : List ℕ) (past : List Event) (k : Keeping t past) where
           (keeps-said k (λ b. by-test (same (keyOf (asks key)) b) (λ h. rw h) (λ h. rw h)) refl)
 
     sends-rightly : Rightly t past (sends key)
-    unfolding answered right sent sendingAnswer
+    unfolding answered right nextToSend sendingAnswer
     sends-rightly =
-        by-test (lives key past) sent-rightly
+        by-test (lives key past) hands-rightly
         (λ l. rightly t past (sends key) (refused 11) t (rw (absent key, l)) (rw l) (quiet (sends key) 11 refl))
 
     asks-rightly : Rightly t past (asks key)

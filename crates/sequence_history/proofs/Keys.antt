@@ -18,9 +18,9 @@ use Rattle.sequence_table.specs.declared.table.Entry.{Entry}
 use Rattle.sequence_table.specs.declared.table.Outcome.{Outcome}
 use Rattle.sequence_table.specs.declared.table.Outcome.the-variants as Outcomes
 use Rattle.sequence_table.proofs.Laws as L
-use Rattle.sequence_record.specs.Receive.{fresh, judged, answer}
+use Rattle.sequence_record.specs.Receive.{newReceive, judged, verdictAnswer}
 use Rattle.sequence_packet.specs.Packets.{known, read}
-use Rattle.sequence_table.specs.Table.{rooms, words, find, free, entryAt, putEntry, putKey, newEntry, added, removed, judgedAt, packetRead, packet, handedOut, sent, loss, outcomeAnswer, sendingAnswer, countedAnswer}
+use Rattle.sequence_table.specs.Table.{Table, rooms, words, find, free, putKey, newEntry, withReceive, withCounter, entryAt, putEntry, added, removed, judgedAt, packetRead, packet, handedOut, nextToSend, loss, outcomeAnswer, sendingAnswer, countedAnswer}
 use Rattle.wire_read.specs.Answer.{done}
 use Rattle.sequence_history.specs.History.{Call, adds, removes, shows, sends, asks, isDone, keyRead, keyOf, isAdding, Carries, no-more, next, tableVerdicts, lentVerdicts, rightNumber, answered}
 use Rattle.sequence_history.proofs.Record.{one-step, starts, judged-refused}
@@ -29,7 +29,7 @@ use Rattle.sequence_history.proofs.Table.{begun, Apart, apart-entry, ap
 -- ---- a new life starts empty, whatever words the table had
 
 -- adding is refused, or begins a life in a free room
-by-adding : (t : List ℕ) (key : Key) (A : Outcome × List ℕ → Type 0) → ((n : ℕ) → A (Outcomes.Refused n, t)) → (rooms ≤ find t key → free t < rooms → A (Outcomes.Done, begun t key)) → A (added t key)
+by-adding : (t : Table) (key : Key) (A : Outcome × Table → Type 0) → ((n : ℕ) → A (Outcomes.Refused n, t)) → (rooms ≤ find t key → free t < rooms → A (Outcomes.Done, begun t key)) → A (added t key)
 unfolding added
 by-adding t key A refused begins-it =
     by-test (not (known (key .protocol))) (λ e1. rw e1 (refused 10))
@@ -40,14 +40,14 @@ by-adding t key A refused begins-it =
     (λ e3.
     by-test (leb rooms (free t)) (λ e4. rw (e1, e2, e3, e4) (refused 8199)) (λ e4. rw (e1, e2, e3, e4) (begins-it (ltb-false (find t key) rooms e3) (leb-false rooms (free t) e4))))))
 
-module _ (t u : List ℕ) (key : Key) (long : length t ≡ rooms * words) where
+module _ (t u : Table) (key : Key) (long : length t ≡ rooms * words) where
   abbrev Begun : Type 0
   Begun = (u ≡ begun t key) × ((rooms ≤ find t key) × (free t < rooms))
 
   adding-done : added t key ≡ (Outcomes.Done, u) → Begun
   adding-done =
-      by-adding t key (λ x. x ≡ (Outcomes.Done, u) → Begun) (λ n h. let e : Outcomes.Refused n ≡ Outcomes.Done = ap (λ (p : Outcome × List ℕ). p .0) h in never (cc))
-      (λ a f h. (sym (ap (λ (p : Outcome × List ℕ). p .1) h), (a, f)))
+      by-adding t key (λ x. x ≡ (Outcomes.Done, u) → Begun) (λ n h. let e : Outcomes.Refused n ≡ Outcomes.Done = ap (λ (p : Outcome × Table). p .0) h in never (cc))
+      (λ a f h. (sym (ap (λ (p : Outcome × Table). p .1) h), (a, f)))
 
   module _ (adding : added t key ≡ (Outcomes.Done, u)) where
     new-room : find u key < rooms
@@ -64,20 +64,20 @@ module _ (t u : List ℕ) (key : Key) (long : length t ≡ rooms * words) where
     new-loss = rw (lt-leb rooms (find u key) new-room, new-entry)
 
     pub new-sending : answered u (sends key) .0 ≡ done (1 ∷ [])
-    unfolding answered sent handedOut sendingAnswer
+    unfolding answered nextToSend handedOut sendingAnswer
     new-sending = rw (lt-leb rooms (find u key) new-room, new-entry)
 
     pub new-packet : (integrity : Bool) (s : List ℕ) (number : ℕ) → read (key .protocol) s ≡ Read (key .spi) number →
         answered u (shows (key .destination) (key .protocol) integrity s) .0 ≡ rightNumber [] number integrity
     unfolding answered packet packetRead judgedAt
-    new-packet integrity s number is = rw (is, lt-leb rooms (find u key) new-room, new-entry) (one-step fresh [] starts number integrity .0)
+    new-packet integrity s number is = rw (is, lt-leb rooms (find u key) new-room, new-entry) (one-step newReceive [] starts number integrity .0)
 
 -- ---- a call on one key changes nothing that can be asked of another
 
-apart-none : (t : List ℕ) (b : Key) → Apart t t b
+apart-none : (t : Table) (b : Key) → Apart t t b
 apart-none t b = record { found = refl; entry = refl }
 
-module _ (t : List ℕ) (long : length t ≡ rooms * words) (b : Key) where
+module _ (t : Table) (long : length t ≡ rooms * words) (b : Key) where
   apart-packet : (destination protocol : ℕ) (integrity : Bool) (p : Packet) → (keyRead destination protocol p ≡ b → ⊥) → Apart t (packetRead t destination protocol integrity p .1) b
   unfolding packetRead judgedAt
   apart-packet destination protocol integrity (Refused number) d = apart-none t b
@@ -86,10 +86,10 @@ module _ (t : List ℕ) (long : length t ≡ rooms * words) (b : Key) where
       let e : Entry = entryAt t (find t key) in
       by-test (leb rooms (find t key))
       (λ h. rw h (apart-none t b))
-      (λ h. rw h (apart-entry t key b d (record { receive = judged (e .receive) number integrity .receive; sent = e .sent }) (leb-false rooms (find t key) h)))
+      (λ h. rw h (apart-entry t key b d (withReceive e (judged (e .receive) number integrity .receive)) (leb-false rooms (find t key) h)))
 
   apart-call : (c : Call) → (keyOf c ≡ b → ⊥) → Apart t (answered t c .1) b
-  unfolding answered keyOf added removed packet sent handedOut
+  unfolding answered keyOf added removed packet nextToSend handedOut
   apart-call (adds key) d = by-adding t key (λ x. Apart t (x .1) b) (λ n. apart-none t b) (λ a f. apart-added t key b d long f)
   apart-call (removes key) d =
       by-test (leb rooms (find t key))
@@ -100,13 +100,13 @@ module _ (t : List ℕ) (long : length t ≡ rooms * words) (b : Key) where
       by-test (leb rooms (find t key))
       (λ e. rw e (apart-none t b))
       (λ e.
-      by-test (leb 4294967295 (entryAt t (find t key) .sent))
+      by-test (leb 4294967295 (entryAt t (find t key) .counter))
       (λ f. rw (e, f) (apart-none t b))
-      (λ f. rw (e, f) (apart-entry t key b d (record { receive = entryAt t (find t key) .receive; sent = entryAt t (find t key) .sent + 1 }) (leb-false rooms (find t key) e))))
+      (λ f. rw (e, f) (apart-entry t key b d (withCounter (entryAt t (find t key)) (entryAt t (find t key) .counter + 1)) (leb-false rooms (find t key) e))))
   apart-call (asks key) d = apart-none t b
 
 -- what is asked of a key whose life is the same is answered the same
-module _ (t u : List ℕ) where
+module _ (t u : Table) where
   same-packet : (destination protocol : ℕ) (integrity : Bool) (p : Packet) → Apart t u (keyRead destination protocol p) →
       packetRead u destination protocol integrity p .0 ≡ packetRead t destination protocol integrity p .0
   unfolding packetRead judgedAt
@@ -118,49 +118,49 @@ module _ (t u : List ℕ) where
       (λ h. rw (a .entry, a .found, h))
 
   same-answer : (c : Call) → isAdding c ≡ false → Apart t u (keyOf c) → answered u c .0 ≡ answered t c .0
-  unfolding answered keyOf removed packet sent handedOut loss
+  unfolding answered keyOf removed packet nextToSend handedOut loss
   same-answer (adds key) h a = clash (sym h)
   same-answer (removes key) h a = by-test (leb rooms (find t key)) (λ e. rw (a .found, e)) (λ e. rw (a .found, e))
-  same-answer (shows destination protocol integrity s) h a = ap answer (same-packet destination protocol integrity (read protocol s) a)
+  same-answer (shows destination protocol integrity s) h a = ap verdictAnswer (same-packet destination protocol integrity (read protocol s) a)
   same-answer (sends key) h a =
       by-test (leb rooms (find t key))
       (λ e. rw (a .found, e))
       (λ e.
-      by-test (leb 4294967295 (entryAt t (find t key) .sent))
+      by-test (leb 4294967295 (entryAt t (find t key) .counter))
       (λ f. rw (a .entry, a .found, e, f))
       (λ f. rw (a .entry, a .found, e, f)))
   same-answer (asks key) h a = rw (a .entry, a .found)
 
 -- A call on one key changes nothing that can be asked of another, whatever words the table has. (Adding another key may find the table
 -- full: that is asked of the table.)
-pub other-keys : (t : List ℕ) → length t ≡ rooms * words → (c asked : Call) → (keyOf c ≡ keyOf asked → ⊥) → isAdding asked ≡ false →
+pub other-keys : (t : Table) → length t ≡ rooms * words → (c asked : Call) → (keyOf c ≡ keyOf asked → ⊥) → isAdding asked ≡ false →
     answered (answered t c .1) asked .0 ≡ answered t asked .0
 other-keys t long c asked d h = same-answer t (answered t c .1) asked h (apart-call t long (keyOf asked) c d)
 
 -- ---- the lent record and the table
 
-packet-at : (t : List ℕ) (key : Key) (integrity : Bool) (s : List ℕ) (number : ℕ) → find t key < rooms → read (key .protocol) s ≡ Read (key .spi) number →
+packet-at : (t : Table) (key : Key) (integrity : Bool) (s : List ℕ) (number : ℕ) → find t key < rooms → read (key .protocol) s ≡ Read (key .spi) number →
     packet t (key .destination) (key .protocol) integrity s ≡ judgedAt t (find t key) (judged (entryAt t (find t key) .receive) number integrity)
 unfolding packet packetRead
 packet-at t key integrity s number here is = rw (is, lt-leb rooms (find t key) here)
 
 -- From any life on, the lent record and the table give the same verdicts.
 pub lent-same : (key : Key) (packets : List (Bool × List ℕ)) (numbers : List (Bool × ℕ)) → Carries key packets numbers →
-    (t : List ℕ) → length t ≡ rooms * words → find t key < rooms → tableVerdicts t key packets ≡ lentVerdicts (entryAt t (find t key) .receive) numbers
+    (t : Table) → length t ≡ rooms * words → find t key < rooms → tableVerdicts t key packets ≡ lentVerdicts (entryAt t (find t key) .receive) numbers
 unfolding tableVerdicts lentVerdicts judgedAt
 lent-same key packets numbers no-more t long here = refl
 lent-same key packets numbers (next {integrity = integrity} {s = s} {number = number} {packets = ps} {numbers = ns} is more) t long here =
     let i : ℕ = find t key in
     let j : Judged = judged (entryAt t i .receive) number integrity in
-    let e : Entry = record { receive = j .receive; sent = entryAt t i .sent } in
+    let e : Entry = withReceive (entryAt t i) (j .receive) in
     let on : tableVerdicts (putEntry t i e) key ps ≡ lentVerdicts (entryAt (putEntry t i e) (find (putEntry t i e) key) .receive) ns =
     lent-same key ps ns more (putEntry t i e) (L.length-putEntry t i e ∙ long) (omega (arith, L.find-putEntry t i e key)) in
     rw (packet-at t key integrity s number here is) (ap (λ (l : List Verdict). j .verdict ∷ l) (on ∙ rw (own-entry t key long e here)))
 
--- From a life's beginning: a table in which the key was just added, and a fresh lent record.
-pub lent-from-fresh : (key : Key) (packets : List (Bool × List ℕ)) (numbers : List (Bool × ℕ)) → Carries key packets numbers →
-    (t u : List ℕ) → length t ≡ rooms * words → added t key ≡ (Outcomes.Done, u) → tableVerdicts u key packets ≡ lentVerdicts fresh numbers
-lent-from-fresh key packets numbers c t u long adding =
+-- From a life's beginning: a table in which the key was just added, and a new lent record.
+pub lent-from-new : (key : Key) (packets : List (Bool × List ℕ)) (numbers : List (Bool × ℕ)) → Carries key packets numbers →
+    (t u : Table) → length t ≡ rooms * words → added t key ≡ (Outcomes.Done, u) → tableVerdicts u key packets ≡ lentVerdicts newReceive numbers
+lent-from-new key packets numbers c t u long adding =
     let b = adding-done t u key long adding in
     let wide : length u ≡ rooms * words =
     ap length (b .0) ∙ L.length-putEntry (putKey t (free t) key) (free t) newEntry ∙ L.length-putKey t (free t) key ∙ long in
@@ -168,8 +168,8 @@ lent-from-fresh key packets numbers c t u long adding =
 
 -- ---- a refusal changes nothing, whatever words the table has
 
-module _ (t : List ℕ) where
-  unchanged-packet : (destination protocol : ℕ) (integrity : Bool) (p : Packet) → isDone (answer (packetRead t destination protocol integrity p .0)) ≡ false →
+module _ (t : Table) where
+  unchanged-packet : (destination protocol : ℕ) (integrity : Bool) (p : Packet) → isDone (verdictAnswer (packetRead t destination protocol integrity p .0)) ≡ false →
       packetRead t destination protocol integrity p .1 ≡ t
   unfolding packetRead judgedAt
   unchanged-packet destination protocol integrity (Refused number) h = refl
@@ -181,12 +181,12 @@ module _ (t : List ℕ) where
 
   -- A refusal changes nothing.
   pub refused-nothing : (c : Call) → isDone (answered t c .0) ≡ false → answered t c .1 ≡ t
-  unfolding answered added removed packet sent handedOut outcomeAnswer sendingAnswer
+  unfolding answered added removed packet nextToSend handedOut outcomeAnswer sendingAnswer
   refused-nothing (adds key) h = by-adding t key (λ x. isDone (outcomeAnswer (x .0)) ≡ false → x .1 ≡ t) (λ n g. refl) (λ a f g. clash (sym g)) h
   refused-nothing (removes key) h = by-test (leb rooms (find t key)) (λ e. rw e) (λ e. clash (sym (rw e at h)))
   refused-nothing (shows destination protocol integrity s) h = unchanged-packet destination protocol integrity (read protocol s) h
   refused-nothing (sends key) h =
       by-test (leb rooms (find t key))
       (λ e. rw e)
-      (λ e. by-test (leb 4294967295 (entryAt t (find t key) .sent)) (λ f. rw (e, f)) (λ f. clash (sym (rw (e, f) at h))))
+      (λ e. by-test (leb 4294967295 (entryAt t (find t key) .counter)) (λ f. rw (e, f)) (λ f. clash (sym (rw (e, f) at h))))
   refused-nothing (asks key) h = refl

@@ -14,7 +14,7 @@ use Rattle.wire_read.specs.Tests.{if_then_else_}
 use Rattle.wire_read.specs.Answer.{Answer}
 use Rattle.wire_read.proofs.Tests.{clash, neither, by-test}
 use Rattle.sequence_record.specs.declared.Receive.{Receive}
-use Rattle.sequence_record.specs.Receive.{fresh, bit, behind, acceptedBefore, shifted, taken, judged, answer}
+use Rattle.sequence_record.specs.Receive.{newReceive, bit, behind, acceptedBefore, shifted, withNumber, judged, verdictAnswer}
 use Rattle.sequence_record.proofs.Bits.{set-lt, set-same, set-other, shl-low, shl-high}
 use Rattle.sequence_history.specs.History.{isDone, highest, member, one, sum, recent, rightNumber}
 
@@ -108,7 +108,7 @@ module _ (r : Receive) (h : List ℕ) (s : Shows r h) (n : ℕ) where
         set-other (up - n) k (shifted w (up - hi)) q clear ∙ before k l
         ∙ sym (ap (λ (b : Bool). one (b || member (up - k) h)) (ne-eqb (up - k) n off)))
 
-    takes : Shows (taken r n) (n ∷ h)
+    takes : Shows (withNumber r n) (n ∷ h)
     takes =
         let t : r .highest ≡ hi = s .top in
         let z : 0 ≡ n → ⊥ = omega arith in
@@ -124,15 +124,15 @@ abbrev pub after : Answer → ℕ → List ℕ → List ℕ
 after a n h = if isDone a then n ∷ h else h
 
 -- a refusal leaves the record as it is
-pub judged-refused : (r : Receive) (n : ℕ) (integrity : Bool) → isDone (answer (judged r n integrity .verdict)) ≡ false → judged r n integrity .receive ≡ r
-unfolding judged answer
+pub judged-refused : (r : Receive) (n : ℕ) (integrity : Bool) → isDone (verdictAnswer (judged r n integrity .verdict)) ≡ false → judged r n integrity .receive ≡ r
+unfolding judged verdictAnswer
 judged-refused r n integrity h =
     by-test (behind (r .highest) n) (λ b. rw b)
     (λ b. by-test (acceptedBefore r n) (λ again. rw (b, again)) (λ again. by-test integrity (λ w. clash (sym (rw (b, again, w) at h))) (λ w. rw (b, again, w))))
 
 pub one-step : (r : Receive) (h : List ℕ) → Shows r h → (n : ℕ) (integrity : Bool)
-    → (answer (judged r n integrity .verdict) ≡ rightNumber h n integrity) × Shows (judged r n integrity .receive) (after (rightNumber h n integrity) n h)
-unfolding judged rightNumber answer
+    → (verdictAnswer (judged r n integrity .verdict) ≡ rightNumber h n integrity) × Shows (judged r n integrity .receive) (after (rightNumber h n integrity) n h)
+unfolding judged rightNumber verdictAnswer
 one-step r h s n integrity =
     let top : behind (r .highest) n ≡ behind (highest h) n = ap (λ (x : ℕ). behind x n) (s .top) in
     by-test (behind (highest h) n) (λ b. rw (top, b) (refl, s))
@@ -141,7 +141,7 @@ one-step r h s n integrity =
     by-test (member n h) (λ m. rw (top, b, again, m) (refl, s))
     (λ m. by-test integrity (λ w. rw (top, b, again, m, w) (refl, takes r h s n (live n (highest h) b .0) (live n (highest h) b .1) m)) (λ w. rw (top, b, again, m, w) (refl, s))))
 
-pub starts : Shows fresh []
+pub starts : Shows newReceive []
 starts = record { top = refl; fits = lit< tt; bits = λ k l. zero-bit k; no-zero = refl }
 
 -- ---- the count

@@ -13,9 +13,8 @@ use Rattle.wire_read.proofs.Tests.{never, clash, by-test}
 use Rattle.sequence_packet.specs.declared.Packet.{Packet}
 use Rattle.sequence_packet.specs.declared.Packet.the-variants.{Read, Refused}
 use Rattle.sequence_table.specs.declared.table.Key.{Key}
-use Rattle.sequence_record.specs.Receive.{answer}
 use Rattle.sequence_packet.specs.Packets.{read}
-use Rattle.sequence_table.specs.Table.{empty}
+use Rattle.sequence_table.specs.Table.{Table, empty}
 use Rattle.wire_read.specs.Answer.{refused, done}
 use Rattle.sequence_history.specs.History.{Call, adds, removes, shows, sends, asks, Event, isDone, same, keyRead, numberRead, keyOf, Distinct, countdown, Deed, begins, ends, accepts, hands, none, deed, deedFor, lives, accepted, acceptedAfter, handed, handedAfter, highest, member, rightNumber, rightPacket, right, answered, answeredAll, rightAll}
 use Rattle.sequence_history.proofs.Table.{same-true}
@@ -23,7 +22,7 @@ use Rattle.sequence_history.proofs.Calls.{Keeping, unread, call-rightly
 
 -- ---- against the history
 
-answers-agree : (calls : List Call) (t : List ℕ) (past : List Event) → Keeping t past → answeredAll t past calls ≡ rightAll past calls
+answers-agree : (calls : List Call) (t : Table) (past : List Event) → Keeping t past → answeredAll t past calls ≡ rightAll past calls
 unfolding answeredAll rightAll
 answers-agree [] t past k = refl
 answers-agree (c ∷ calls) t past k = let q = call-rightly t past k c in rw (q .0) (answers-agree calls (answered t c .1) (record { call = c; answer = right past c } ∷ past) (q .1))

@@ -10,7 +10,7 @@ use lib.Dec.{eqb, leb, ltb}
 use Rattle.wire_read.proofs.Tests.{clash, both, by-test}
 use Rattle.sequence_table.specs.declared.table.Key.{Key}
 use Rattle.sequence_table.specs.declared.table.Entry.{Entry}
-use Rattle.sequence_table.specs.Table.{rooms, words, empty, holds, isFree, find, free, entryAt, putEntry, putKey, emptied, newEntry}
+use Rattle.sequence_table.specs.Table.{Table, rooms, words, empty, holds, isFree, find, free, entryAt, putEntry, putKey, emptied, newEntry}
 use Rattle.sequence_table.proofs.Laws as L
 use Rattle.sequence_history.specs.History.{same, one, sum}
 use Rattle.sequence_history.proofs.Record.{Shows, starts, sum-same}
@@ -46,8 +46,8 @@ sum-changed f g (suc n) i l h =
     let last : f n ≡ g n = h n (omega arith) (omega arith) in
     omega arith)
 
-abbrev pub taken : List ℕ → ℕ
-taken t = sum (λ i. one (not (isFree t i))) rooms
+abbrev pub takenRooms : (t : Table) → ℕ
+takenRooms t = sum (λ i. one (not (isFree t i))) rooms
 
 one-most : (b : Bool) → one b ≤ 1
 one-most true = omega arith
@@ -72,26 +72,26 @@ sum-all f zero h = refl
 sum-all f (suc n) h = let q : one (f n) ≡ 1 = rw (h n (omega arith)) in omega (arith, sum-all f n (λ i l. h i (omega arith)))
 
 -- no room is free exactly where all are taken
-pub full-taken : (t : List ℕ) → leb rooms (free t) ≡ leb rooms (taken t)
+pub full-taken : (t : Table) → leb rooms (free t) ≡ leb rooms (takenRooms t)
 full-taken t =
     by-test (ltb (free t) rooms)
     (λ e.
     let l : free t < rooms = ltb-true (free t) rooms e in
-    let less : taken t < rooms = sum-less (λ i. not (isFree t i)) rooms (free t) l (rw (L.free-is t l)) in
-    lt-leb rooms (free t) l ∙ sym (lt-leb rooms (taken t) less))
+    let less : takenRooms t < rooms = sum-less (λ i. not (isFree t i)) rooms (free t) l (rw (L.free-is t l)) in
+    lt-leb rooms (free t) l ∙ sym (lt-leb rooms (takenRooms t) less))
     (λ e.
     let l : rooms ≤ free t = ltb-false (free t) rooms e in
-    let all : taken t ≡ rooms = sum-all (λ i. not (isFree t i)) rooms (λ i g. rw (L.free-none t l i g)) in
-    le-leb rooms (free t) l ∙ sym (le-leb rooms (taken t) (omega arith)))
+    let all : takenRooms t ≡ rooms = sum-all (λ i. not (isFree t i)) rooms (λ i g. rw (L.free-none t l i g)) in
+    le-leb rooms (free t) l ∙ sym (le-leb rooms (takenRooms t) (omega arith)))
 
 -- ---- what a call on one key leaves of another
 
 -- b's life in u is what it is in t
-pub record Apart (t u : List ℕ) (b : Key) : Type 0 where
+pub record Apart (t u : Table) (b : Key) : Type 0 where
   pub found : find u b ≡ find t b
   pub entry : entryAt u (find u b) ≡ entryAt t (find t b)
 
-module _ (t : List ℕ) (key b : Key) (d : key ≡ b → ⊥) where
+module _ (t : Table) (key b : Key) (d : key ≡ b → ⊥) where
   -- the other key's room is another
   not-here : find t key < rooms → find t b ≡ find t key → ⊥
   not-here here e =
@@ -147,10 +147,10 @@ module _ (t : List ℕ) (key b : Key) (d : key ≡ b → ⊥) where
 -- ---- what a call leaves of its own key
 
 -- the table with a life of the key begun in the first free room
-abbrev pub begun : List ℕ → Key → List ℕ
+abbrev pub begun : (t : Table) (key : Key) → Table
 begun t key = putEntry (putKey t (free t) key) (free t) newEntry
 
-module _ (t : List ℕ) (key : Key) (long : length t ≡ rooms * words) where
+module _ (t : Table) (key : Key) (long : length t ≡ rooms * words) where
   pub own-entry : (e : Entry) → find t key < rooms → entryAt (putEntry t (find t key) e) (find (putEntry t (find t key) e) key) ≡ e
   own-entry e here = rw (L.find-putEntry t (find t key) e key) (L.entry-put t (find t key) e long here)
 
@@ -185,14 +185,14 @@ pub record Life : Type 0 where
 
 pub record Tells (e : Entry) (life : Life) : Type 0 where
   pub shown : Shows (e .receive) (life .accepted)
-  pub counts : e .sent ≡ length (life .handed)
+  pub counts : e .counter ≡ length (life .handed)
 
-pub record Keeps (t : List ℕ) (life : Key → Life) (entries : ℕ) : Type 0 where
+pub record Keeps (t : Table) (life : Key → Life) (entries : ℕ) : Type 0 where
   pub long : length t ≡ rooms * words
   pub only : (key : Key) (i j : ℕ) → i < rooms → j < rooms → holds t key i ≡ true → holds t key j ≡ true → i ≡ j
   pub present : (key : Key) → ltb (find t key) rooms ≡ life key .lives
   pub entry : (key : Key) → find t key < rooms → Tells (entryAt t (find t key)) (life key)
-  pub many : taken t ≡ entries
+  pub many : takenRooms t ≡ entries
 
 empty-free : (j : ℕ) → j < rooms → isFree empty j ≡ true
 unfolding isFree
@@ -219,15 +219,15 @@ by-key : {A : Type 0} (a b : Key) → (a ≡ b → A) → ((a ≡ b → ⊥) →
 by-key a b f g = by-test (same a b) (λ e. f (same-true a b e)) (λ e. g (λ q. clash (sym e ∙ rw (← q) (same-self a))))
 
 -- what the lives are may be said in other words
-pub keeps-said : {t : List ℕ} {life life′ : Key → Life} {entries entries′ : ℕ} →
+pub keeps-said : {t : Table} {life life′ : Key → Life} {entries entries′ : ℕ} →
     Keeps t life entries → ((b : Key) → life′ b ≡ life b) → entries′ ≡ entries → Keeps t life′ entries′
 keeps-said k l n = record { long = k .long; only = k .only; present = λ b. rw (l b) (k .present b); entry = λ b g. rw (l b) (k .entry b g); many = k .many ∙ sym n }
 
-module _ {t : List ℕ} {life : Key → Life} {entries : ℕ} (k : Keeps t life entries) (key : Key) (life′ : Key → Life) (others : (b : Key) → (key ≡ b → ⊥) → life′ b ≡ life b) where
+module _ {t : Table} {life : Key → Life} {entries : ℕ} (k : Keeps t life entries) (key : Key) (life′ : Key → Life) (others : (b : Key) → (key ≡ b → ⊥) → life′ b ≡ life b) where
   -- a table that differs in the key alone
-  keeps-changed : (u : List ℕ) (entries′ : ℕ) → ((b : Key) → (key ≡ b → ⊥) → Apart t u b) → length u ≡ length t →
+  keeps-changed : (u : Table) (entries′ : ℕ) → ((b : Key) → (key ≡ b → ⊥) → Apart t u b) → length u ≡ length t →
       ((b : Key) (i j : ℕ) → i < rooms → j < rooms → holds u b i ≡ true → holds u b j ≡ true → i ≡ j) →
-      ltb (find u key) rooms ≡ life′ key .lives → (find u key < rooms → Tells (entryAt u (find u key)) (life′ key)) → taken u ≡ entries′ → Keeps u life′ entries′
+      ltb (find u key) rooms ≡ life′ key .lives → (find u key < rooms → Tells (entryAt u (find u key)) (life′ key)) → takenRooms u ≡ entries′ → Keeps u life′ entries′
   keeps-changed u entries′ apart long only own-present own-entry many = record {
     long = long ∙ k .long;
     only = only;
@@ -242,7 +242,7 @@ module _ {t : List ℕ} {life : Key → Life} {entries : ℕ} (k : Keeps t life 
   -- an entry is put where the key's was
   pub keeps-entry : find t key < rooms → (e : Entry) → life′ key .lives ≡ true → Tells e (life′ key) → Keeps (putEntry t (find t key) e) life′ entries
   keeps-entry here e lives-now tells =
-      let put : List ℕ = putEntry t (find t key) e in
+      let put : Table = putEntry t (find t key) e in
       keeps-changed put entries (λ b d. apart-entry t key b d e here) (L.length-putEntry t (find t key) e)
       (λ b i j l g p q. k .only b i j l g (sym (L.holds-putEntry t (find t key) e b i) ∙ p) (sym (L.holds-putEntry t (find t key) e b j) ∙ q))
       (rw (L.find-putEntry t (find t key) e key, lives-now) (lt-ltb (find t key) rooms here))
@@ -273,7 +273,7 @@ module _ {t : List ℕ} {life : Key → Life} {entries : ℕ} (k : Keeps t life 
         not-free : (key ≡ b → ⊥) → (i : ℕ) → holds (begun t key) b i ≡ true → i ≡ free t → ⊥
         not-free d i p e = d (L.holds-one (begun t key) (free t) key b holds-there (rw e at p))
 
-    new-taken : taken (begun t key) ≡ taken t + 1
+    new-taken : takenRooms (begun t key) ≡ takenRooms t + 1
     new-taken =
         let f : ℕ → ℕ = λ i. one (not (isFree t i)) in
         let g : ℕ → ℕ = λ i. one (not (isFree (begun t key) i)) in
@@ -295,7 +295,7 @@ module _ {t : List ℕ} {life : Key → Life} {entries : ℕ} (k : Keeps t life 
 
   -- the key's life ends
   module _ (here : find t key < rooms) where
-    abbrev gone : List ℕ
+    abbrev gone : Table
     gone = emptied t (find t key)
 
     still : (b : Key) (i : ℕ) → holds gone b i ≡ true → holds t b i ≡ true
@@ -304,7 +304,7 @@ module _ {t : List ℕ} {life : Key → Life} {entries : ℕ} (k : Keeps t life 
         (λ e. clash (sym (L.free-holds gone (find t key) b (L.isFree-emptied t (find t key) (k .long) here)) ∙ rw (eqb-true i (find t key) e) at p))
         (λ e. sym (L.holds-kept t (find t key) b i (eqb-false i (find t key) e)) ∙ p)
 
-    less-taken : taken gone + 1 ≡ taken t
+    less-taken : takenRooms gone + 1 ≡ takenRooms t
     less-taken =
         let f : ℕ → ℕ = λ i. one (not (isFree t i)) in
         let g : ℕ → ℕ = λ i. one (not (isFree gone i)) in

@@ -14,19 +14,19 @@ use Rattle.sequence_record.specs.declared.Verdict.{Verdict}
 use Rattle.sequence_packet.specs.declared.Packet.{Packet}
 use Rattle.sequence_packet.specs.declared.Packet.the-variants.{Read, Refused}
 use Rattle.sequence_table.specs.declared.table.Key.{Key}
-use Rattle.sequence_record.specs.Receive.{judged, answer}
+use Rattle.sequence_record.specs.Receive.{judged, verdictAnswer}
 use Rattle.sequence_packet.specs.Packets.{known, read}
-use Rattle.sequence_table.specs.Table.{empty, added, removed, packet, sent, loss, outcomeAnswer, sendingAnswer, countedAnswer}
+use Rattle.sequence_table.specs.Table.{Table, empty, added, removed, packet, nextToSend, loss, outcomeAnswer, sendingAnswer, countedAnswer}
 
 -- ---- what came before
 
 -- a call of the table; `shows` is a packet and what the caller says of its integrity; `asks` is for the loss line
 pub data Call : Type 0 where
-  adds : Key → Call
-  removes : Key → Call
-  shows : (destination protocol : ℕ) (integrity : Bool) → List ℕ → Call
-  sends : Key → Call
-  asks : Key → Call
+  adds : (key : Key) → Call
+  removes : (key : Key) → Call
+  shows : (destination protocol : ℕ) (integrity : Bool) (s : List ℕ) → Call
+  sends : (key : Key) → Call
+  asks : (key : Key) → Call
 
 -- a call and its answer; what came before is a list of these, the last first
 pub record Event : Type 0 where
@@ -34,22 +34,22 @@ pub record Event : Type 0 where
   pub answer : Answer
 
 -- "0 is done"
-abbrev pub isDone : Answer → Bool
+abbrev pub isDone : (a : Answer) → Bool
 isDone a = eqb (a .number) 0
 
-abbrev pub same : Key → Key → Bool
+abbrev pub same : (a b : Key) → Bool
 same a b = eqb (a .destination) (b .destination) && eqb (a .protocol) (b .protocol) && eqb (a .spi) (b .spi)
 
 -- the key of a packet, and the number that it carries
-abbrev pub keyRead : ℕ → ℕ → Packet → Key
+abbrev pub keyRead : (destination protocol : ℕ) (p : Packet) → Key
 keyRead destination protocol (Read spi number) = record { destination = destination; protocol = protocol; spi = spi }
 keyRead destination protocol (Refused number) = record { destination = destination; protocol = protocol; spi = 0 }
 
-abbrev pub numberRead : Packet → ℕ
+abbrev pub numberRead : (p : Packet) → ℕ
 numberRead (Read spi number) = number
 numberRead (Refused number) = 0
 
-unfoldable pub keyOf : Call → Key
+unfoldable pub keyOf : (c : Call) → Key
 keyOf (adds key) = key
 keyOf (removes key) = key
 keyOf (shows destination protocol integrity s) = keyRead destination protocol (read protocol s)
@@ -60,106 +60,110 @@ keyOf (asks key) = key
 pub data Deed : Type 0 where
   begins : Deed
   ends : Deed
-  accepts : ℕ → Deed
-  hands : ℕ → Deed
+  accepts : (number : ℕ) → Deed
+  hands : (number : ℕ) → Deed
   none : Deed
 
-abbrev pub deed : Call → Answer → Deed
+-- the number that an answer to a sending hands out
+abbrev pub numberHanded : (a : Answer) → ℕ
+numberHanded a = getD (a .values) 0 0
+
+abbrev pub deed : (c : Call) (a : Answer) → Deed
 deed (adds key) a = begins
 deed (removes key) a = ends
 deed (shows destination protocol integrity s) a = accepts (numberRead (read protocol s))
-deed (sends key) a = hands (getD (a .values) 0 0)
+deed (sends key) a = hands (numberHanded a)
 deed (asks key) a = none
 
-abbrev pub deedFor : Key → Event → Deed
+abbrev pub deedFor : (key : Key) (e : Event) → Deed
 deedFor key e = if isDone (e .answer) && same (keyOf (e .call)) key then deed (e .call) (e .answer) else none
 
 -- a life of the key runs
-abbrev pub livesAfter : Deed → Bool → Bool
+abbrev pub livesAfter : (d : Deed) (before : Bool) → Bool
 livesAfter begins before = true
 livesAfter ends before = false
 livesAfter (accepts number) before = before
 livesAfter (hands number) before = before
 livesAfter none before = before
 
-unfoldable pub lives : Key → List Event → Bool
+unfoldable pub lives : (key : Key) (past : List Event) → Bool
 lives key [] = false
 lives key (e ∷ past) = livesAfter (deedFor key e) (lives key past)
 
 -- the numbers accepted in this life, the last first
-abbrev pub acceptedAfter : Deed → List ℕ → List ℕ
+abbrev pub acceptedAfter : (d : Deed) (before : List ℕ) → List ℕ
 acceptedAfter begins before = []
 acceptedAfter ends before = []
 acceptedAfter (accepts number) before = number ∷ before
 acceptedAfter (hands number) before = before
 acceptedAfter none before = before
 
-unfoldable pub accepted : Key → List Event → List ℕ
+unfoldable pub accepted : (key : Key) (past : List Event) → List ℕ
 accepted key [] = []
 accepted key (e ∷ past) = acceptedAfter (deedFor key e) (accepted key past)
 
 -- the numbers handed out for sending in this life, the last first
-abbrev pub handedAfter : Deed → List ℕ → List ℕ
+abbrev pub handedAfter : (d : Deed) (before : List ℕ) → List ℕ
 handedAfter begins before = []
 handedAfter ends before = []
 handedAfter (accepts number) before = before
 handedAfter (hands number) before = number ∷ before
 handedAfter none before = before
 
-unfoldable pub handed : Key → List Event → List ℕ
+unfoldable pub handed : (key : Key) (past : List Event) → List ℕ
 handed key [] = []
 handed key (e ∷ past) = handedAfter (deedFor key e) (handed key past)
 
 -- the lives that run: one more with each adding that was done, one less with each removing
-abbrev pub entriesAfter : Deed → ℕ → ℕ
+abbrev pub entriesAfter : (d : Deed) (before : ℕ) → ℕ
 entriesAfter begins before = before + 1
 entriesAfter ends before = before - 1
 entriesAfter (accepts number) before = before
 entriesAfter (hands number) before = before
 entriesAfter none before = before
 
-unfoldable pub entries : List Event → ℕ
+unfoldable pub entries : (past : List Event) → ℕ
 entries [] = 0
 entries (e ∷ past) = entriesAfter (if isDone (e .answer) then deed (e .call) (e .answer) else none) (entries past)
 
 -- ---- what is right of it
 
 -- "H the highest accepted number of this life, 0 at first"
-abbrev pub highest : List ℕ → ℕ
+abbrev pub highest : (numbers : List ℕ) → ℕ
 highest [] = 0
 highest (n ∷ numbers) = max n (highest numbers)
 
-abbrev pub member : ℕ → List ℕ → Bool
+abbrev pub member : (n : ℕ) (numbers : List ℕ) → Bool
 member n [] = false
 member n (x ∷ numbers) = eqb n x || member n numbers
 
-abbrev pub one : Bool → ℕ
+abbrev pub one : (b : Bool) → ℕ
 one b = if b then 1 else 0
 
 -- f 0 + .. + f (n - 1)
-unfoldable pub sum : (ℕ → ℕ) → ℕ → ℕ
+unfoldable pub sum : (f : ℕ → ℕ) (n : ℕ) → ℕ
 sum f zero = 0
 sum f (suc n) = sum f n + f n
 
 -- "how many of those last numbers were accepted": of H, H - 1, .., so many as the lesser of H and 64 says
-abbrev pub recent : List ℕ → ℕ
+abbrev pub recent : (numbers : List ℕ) → ℕ
 recent numbers = sum (λ k. one (member (highest numbers - k) numbers)) (min (highest numbers) 64)
 
 -- "number 0, or number plus 64 not above H: 8197; accepted before: 8194; integrity no: 24; else accepted"
-unfoldable pub rightNumber : List ℕ → ℕ → Bool → Answer
+unfoldable pub rightNumber : (numbers : List ℕ) (number : ℕ) (integrity : Bool) → Answer
 rightNumber numbers number integrity =
     if eqb number 0 || leb (number + 64) (highest numbers) then refused 8197
     else if member number numbers then refused 8194
     else if not integrity then refused 24
     else done (1 ∷ [])
 
-unfoldable pub rightPacket : List Event → ℕ → ℕ → Bool → Packet → Answer
+unfoldable pub rightPacket : (past : List Event) (destination protocol : ℕ) (integrity : Bool) (p : Packet) → Answer
 rightPacket past destination protocol integrity (Refused number) = refused number
 rightPacket past destination protocol integrity (Read spi number) =
     if not (lives (record { destination = destination; protocol = protocol; spi = spi }) past) then refused 11
     else rightNumber (accepted (record { destination = destination; protocol = protocol; spi = spi }) past) number integrity
 
-unfoldable pub right : List Event → Call → Answer
+unfoldable pub right : (past : List Event) (c : Call) → Answer
 -- "Adding: protocol 10, SPI below 256 11, present 8200, full 8199"
 right past (adds key) =
     if not (known (key .protocol)) then refused 10
@@ -186,35 +190,35 @@ right past (asks key) =
 -- ---- runs
 
 -- what the table answers a call by its contracts, and the table after it
-unfoldable pub answered : List ℕ → Call → Answer × List ℕ
+unfoldable pub answered : (t : Table) (c : Call) → Answer × Table
 answered t (adds key) = (outcomeAnswer (added t key .0), added t key .1)
 answered t (removes key) = (outcomeAnswer (removed t key .0), removed t key .1)
-answered t (shows destination protocol integrity s) = (answer (packet t destination protocol integrity s .0), packet t destination protocol integrity s .1)
-answered t (sends key) = (sendingAnswer (sent t key .0), sent t key .1)
+answered t (shows destination protocol integrity s) = (verdictAnswer (packet t destination protocol integrity s .0), packet t destination protocol integrity s .1)
+answered t (sends key) = (sendingAnswer (nextToSend t key .0), nextToSend t key .1)
 answered t (asks key) = (countedAnswer (loss t key), t)
 
 -- the calls of a run with the table's answers, and with those worked out afresh, behind what came before
-unfoldable pub answeredAll : List ℕ → List Event → List Call → List Event
+unfoldable pub answeredAll : (t : Table) (past : List Event) (calls : List Call) → List Event
 answeredAll t past [] = past
 answeredAll t past (c ∷ calls) = answeredAll (answered t c .1) (record { call = c; answer = answered t c .0 } ∷ past) calls
 
-unfoldable pub rightAll : List Event → List Call → List Event
+unfoldable pub rightAll : (past : List Event) (calls : List Call) → List Event
 rightAll past [] = past
 rightAll past (c ∷ calls) = rightAll (record { call = c; answer = right past c } ∷ past) calls
 
 -- ---- what is said of runs
 
 -- no number stands twice
-abbrev pub Distinct : List ℕ → Type 0
+abbrev pub Distinct : (numbers : List ℕ) → Type 0
 Distinct [] = Unit {0}
 Distinct (n ∷ numbers) = (member n numbers ≡ false) × Distinct numbers
 
 -- n, n - 1, .., 1
-unfoldable pub countdown : ℕ → List ℕ
+unfoldable pub countdown : (n : ℕ) → List ℕ
 countdown zero = []
 countdown (suc n) = suc n ∷ countdown n
 
-abbrev pub isAdding : Call → Bool
+abbrev pub isAdding : (c : Call) → Bool
 isAdding (adds key) = true
 isAdding (removes key) = false
 isAdding (shows destination protocol integrity s) = false
@@ -227,12 +231,12 @@ pub data Carries (key : Key) : List (Bool × List ℕ) → List (Bool × ℕ) �
   next : {integrity : Bool} {s : List ℕ} {number : ℕ} {packets : List (Bool × List ℕ)} {numbers : List (Bool × ℕ)} →
       read (key .protocol) s ≡ Read (key .spi) number → Carries key packets numbers → Carries key ((integrity, s) ∷ packets) ((integrity, number) ∷ numbers)
 
-unfoldable pub tableVerdicts : List ℕ → Key → List (Bool × List ℕ) → List Verdict
+unfoldable pub tableVerdicts : (t : Table) (key : Key) (packets : List (Bool × List ℕ)) → List Verdict
 tableVerdicts t key [] = []
 tableVerdicts t key (p ∷ packets) =
     packet t (key .destination) (key .protocol) (p .0) (p .1) .0 ∷ tableVerdicts (packet t (key .destination) (key .protocol) (p .0) (p .1) .1) key packets
 
-unfoldable pub lentVerdicts : Receive → List (Bool × ℕ) → List Verdict
+unfoldable pub lentVerdicts : (r : Receive) (numbers : List (Bool × ℕ)) → List Verdict
 lentVerdicts r [] = []
 lentVerdicts r (n ∷ numbers) = judged r (n .1) (n .0) .verdict ∷ lentVerdicts (judged r (n .1) (n .0) .receive) numbers
 
@@ -242,17 +246,17 @@ abbrev oneKey : Key
 oneKey = record { destination = 0x0A000001; protocol = 3; spi = 256 }
 
 -- ESP packets of the key whose integrity holds, with these numbers
-unfoldable pub packetsOf : List ℕ → List Call
+unfoldable pub packetsOf : (numbers : List ℕ) → List Call
 packetsOf [] = []
 packetsOf (n ∷ numbers) = shows 0x0A000001 3 true (bytesOf 4 256 ++ bytesOf 4 n) ∷ packetsOf numbers
 
-abbrev firstAnswer : List Event → Answer
+abbrev firstAnswer : (past : List Event) → Answer
 firstAnswer [] = done []
 firstAnswer (e ∷ past) = e .answer
 
 -- the answer to the last of these numbers, and the loss line after them
-unfoldable pub lastOf : List ℕ → Answer
+unfoldable pub lastOf : (numbers : List ℕ) → Answer
 lastOf numbers = firstAnswer (answeredAll empty [] (adds oneKey ∷ packetsOf numbers))
 
-unfoldable pub lossOf : List ℕ → Answer
+unfoldable pub lossOf : (numbers : List ℕ) → Answer
 lossOf numbers = firstAnswer (answeredAll empty [] (adds oneKey ∷ packetsOf numbers ++ (asks oneKey ∷ [])))

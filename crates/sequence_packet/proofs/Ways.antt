@@ -3,17 +3,16 @@ use Prim.Native.Nat.{ℕ, _+_, _*_, _≤_, _<_}
 use mathlib.Core.Path.{_≡_}
 use mathlib.Core.List.{List}
 use mathlib.Core.Bool.{Bool, true, false, not, _&&_}
-use lib.ListN.{length, getD}
+use lib.ListN.{length}
 use lib.Dec.{leb, eqb}
 use borrow.Author.Tests.{le-leb, lt-leb, eq-eqb, ne-eqb}
-use Rattle.wire_read.specs.Wire.{numberAt}
-use Rattle.sequence_packet.specs.Packets.{known, ah, esp, read}
+use Rattle.sequence_packet.specs.Packets.{ahLengthField, ahReserved, ahSpi, ahNumber, espSpi, espNumber, known, ah, esp, read}
 use Rattle.sequence_packet.specs.declared.Packet.{Packet}
 use Rattle.sequence_packet.specs.declared.Packet.the-variants as Packets
 
-module _ (s : List ℕ) (l z : ℕ) (el : l ≡ getD s 1 0) (ez : z ≡ numberAt 2 s 2) where
+module _ (s : List ℕ) (l z : ℕ) (el : l ≡ ahLengthField s) (ez : z ≡ ahReserved s) where
   pub ah-read : (leb 12 (length s) && eqb z 0 && leb 12 ((l + 2) * 4) && leb ((l + 2) * 4) (length s)) ≡ true →
-      (a n : ℕ) → a ≡ numberAt 4 s 4 → n ≡ numberAt 4 s 8 → Packets.Read a n ≡ ah s
+      (a n : ℕ) → a ≡ ahSpi s → n ≡ ahNumber s → Packets.Read a n ≡ ah s
   unfolding ah
   ah-read h a n ea en = rw (← el, ← ez, h, ea, en)
 
@@ -22,7 +21,7 @@ module _ (s : List ℕ) (l z : ℕ) (el : l ≡ getD s 1 0) (ez : z ≡ numberAt
   ah-refused h = rw (← el, ← ez, h)
 
 module _ (s : List ℕ) where
-  pub esp-read : 8 ≤ length s → (a n : ℕ) → a ≡ numberAt 4 s 0 → n ≡ numberAt 4 s 4 → Packets.Read a n ≡ esp s
+  pub esp-read : 8 ≤ length s → (a n : ℕ) → a ≡ espSpi s → n ≡ espNumber s → Packets.Read a n ≡ esp s
   unfolding esp
   esp-read h a n ea en = rw (le-leb 8 (length s) h, ea, en)
 

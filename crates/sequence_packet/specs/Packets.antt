@@ -10,34 +10,58 @@ use Rattle.wire_read.specs.Answer.{Answer, done, refused}
 use Rattle.sequence_packet.specs.declared.Packet.{Packet}
 use Rattle.sequence_packet.specs.declared.Packet.the-variants.{Read, Refused}
 
+-- ---- the fields
+
+-- AH: next header (1), length (1), reserved (2), SPI (4), number (4), integrity value
+abbrev pub ahLengthField : (s : List ℕ) → ℕ
+ahLengthField s = getD s 1 0
+
+abbrev pub ahReserved : (s : List ℕ) → ℕ
+ahReserved s = numberAt 2 s 2
+
+abbrev pub ahSpi : (s : List ℕ) → ℕ
+ahSpi s = numberAt 4 s 4
+
+abbrev pub ahNumber : (s : List ℕ) → ℕ
+ahNumber s = numberAt 4 s 8
+
+-- ESP: SPI (4), number (4), the rest enciphered
+abbrev pub espSpi : (s : List ℕ) → ℕ
+espSpi s = numberAt 4 s 0
+
+abbrev pub espNumber : (s : List ℕ) → ℕ
+espNumber s = numberAt 4 s 4
+
+-- ---- the rules
+
 -- 2 is AH, 3 is ESP
-abbrev pub known : ℕ → Bool
+abbrev pub known : (protocol : ℕ) → Bool
 known protocol = eqb protocol 2 || eqb protocol 3
 
 -- "length field plus 2, times 4"
-abbrev pub ahSize : List ℕ → ℕ
-ahSize s = (getD s 1 0 + 2) * 4
+abbrev pub ahSize : (s : List ℕ) → ℕ
+ahSize s = (ahLengthField s + 2) * 4
 
 -- "AH: 12 bytes at least, reserved zero, length field plus 2, times 4, from 12 to the packet's length; .. else 16"
-unfoldable pub ah : List ℕ → Packet
+unfoldable pub ah : (s : List ℕ) → Packet
 ah s =
-    if leb 12 (length s) && eqb (numberAt 2 s 2) 0 && leb 12 (ahSize s) && leb (ahSize s) (length s) then Read (numberAt 4 s 4) (numberAt 4 s 8)
+    if leb 12 (length s) && eqb (ahReserved s) 0 && leb 12 (ahSize s) && leb (ahSize s) (length s) then Read (ahSpi s) (ahNumber s)
     else Refused 16
 
 -- "ESP 8 at least; else 16"
-unfoldable pub esp : List ℕ → Packet
+unfoldable pub esp : (s : List ℕ) → Packet
 esp s =
-    if leb 8 (length s) then Read (numberAt 4 s 0) (numberAt 4 s 4)
+    if leb 8 (length s) then Read (espSpi s) (espNumber s)
     else Refused 16
 
 -- "A packet's protocol not 2 or 3: 10."
-unfoldable pub read : ℕ → List ℕ → Packet
+unfoldable pub read : (protocol : ℕ) (s : List ℕ) → Packet
 read protocol s =
     if not (known protocol) then Refused 10
     else if eqb protocol 2 then ah s
     else esp s
 
 -- the paper's number and values for each case
-unfoldable pub answer : Packet → Answer
-answer (Read spi number) = done (spi ∷ number ∷ [])
-answer (Refused number) = refused number
+unfoldable pub packetAnswer : (p : Packet) → Answer
+packetAnswer (Read spi number) = done (spi ∷ number ∷ [])
+packetAnswer (Refused number) = refused number

@@ -9,7 +9,7 @@ use lib.Count.{ones}
 use lib.Pow.{pow-lt, pow-pos}
 use borrow.Author.Tests.{lt-ltb, le-ltb, le-leb, lt-leb, ne-eqb, eqb-false, leb-false}
 use Rattle.wire_read.proofs.Tests.{neither, by-test}
-use Rattle.sequence_record.specs.Receive.{bit, behind, acceptedBefore, shifted, taken, judged, lossLine}
+use Rattle.sequence_record.specs.Receive.{bit, behind, acceptedBefore, shifted, withNumber, judged, lossLine}
 use Rattle.sequence_record.specs.declared.Receive.{Receive}
 use Rattle.sequence_record.specs.declared.Verdict.the-variants.{Accepted, Refused}
 use Rattle.sequence_record.proofs.Bits.{set-lt, shl-low}
@@ -50,12 +50,12 @@ module _ (r : Receive) (n : ℕ) (integrity : Bool) where
       pub above-fits : s + 1 < 2 ^ 64
       above-fits = rw es (set-lt 64 0 (shifted (r .window) (n - r .highest)) (lit< tt) (shifted-lt (r .window) (n - r .highest)) (shifted-even (r .window) (n - r .highest) (omega arith)))
 
-      above-taken : record { highest = n; window = s + 1 } ≡ taken r n
-      above-taken = rw (es, max-eq-left (le-of-lt l), sub-self n)
+      above-with-number : record { highest = n; window = s + 1 } ≡ withNumber r n
+      above-with-number = rw (es, max-eq-left (le-of-lt l), sub-self n)
 
       pub above-accepted : not integrity ≡ false → record { receive = record { highest = n; window = s + 1 }; verdict = Accepted } ≡ judged r n integrity
       unfolding judged
-      above-accepted h = rw (ahead, unseen, h, above-taken)
+      above-accepted h = rw (ahead, unseen, h, above-with-number)
 
   -- a number that is not above it
   module _ (l : n ≤ r .highest) (b : Bool) (eb : b ≡ behind (r .highest) n) where
@@ -83,13 +83,13 @@ module _ (r : Receive) (n : ℕ) (integrity : Bool) where
           pub late-fits : r .window + 1 * 2 ^ (r .highest - n) % 2 ^ 64 < 2 ^ 64
           late-fits = rw (one-shl (r .highest - n) within) (set-lt 64 (r .highest - n) (r .window) within f clear)
 
-          late-taken : record { highest = r .highest; window = r .window + 1 * 2 ^ (r .highest - n) % 2 ^ 64 } ≡ taken r n
-          late-taken = rw (max-eq-right l, sub-self (r .highest), one-shl (r .highest - n) within, mul-one (r .window), mod-eq-of-lt f)
+          late-with-number : record { highest = r .highest; window = r .window + 1 * 2 ^ (r .highest - n) % 2 ^ 64 } ≡ withNumber r n
+          late-with-number = rw (max-eq-right l, sub-self (r .highest), one-shl (r .highest - n) within, mul-one (r .window), mod-eq-of-lt f)
 
           pub late-accepted : not integrity ≡ false →
               record { receive = record { highest = r .highest; window = r .window + 1 * 2 ^ (r .highest - n) % 2 ^ 64 }; verdict = Accepted } ≡ judged r n integrity
           unfolding judged
-          late-accepted h = rw (← eb, live, le-leb n (r .highest) l, unmarked, h, late-taken)
+          late-accepted h = rw (← eb, live, le-leb n (r .highest) l, unmarked, h, late-with-number)
 
 pub line-read : (r : Receive) (s : ℕ) → s ≡ min (r .highest) 64 → record { highest = r .highest; span = s; count = ones (r .window) } ≡ lossLine r
 line-read r s e = rw e

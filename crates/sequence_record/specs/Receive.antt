@@ -14,28 +14,28 @@ use Rattle.sequence_record.specs.declared.Judged.{Judged}
 use Rattle.sequence_record.specs.declared.LossLine.{LossLine}
 
 -- "With H the highest accepted number of this life, 0 at first"
-abbrev pub fresh : Receive
-fresh = record { highest = 0; window = 0 }
+abbrev pub newReceive : Receive
+newReceive = record { highest = 0; window = 0 }
 
 -- the binary digit of a word at a place
-abbrev pub bit : ℕ → ℕ → ℕ
-bit w k = w / 2 ^ k % 2
+abbrev pub bit : (word place : ℕ) → ℕ
+bit word place = word / 2 ^ place % 2
 
 -- "number 0, or number plus 64 not above H"
-abbrev pub behind : ℕ → ℕ → Bool
+abbrev pub behind : (highest number : ℕ) → Bool
 behind highest number = eqb number 0 || leb (number + 64) highest
 
 -- "accepted before"
-abbrev pub acceptedBefore : Receive → ℕ → Bool
+abbrev pub acceptedBefore : (r : Receive) (number : ℕ) → Bool
 acceptedBefore r number = leb number (r .highest) && eqb (bit (r .window) (r .highest - number)) 1
 
 -- a 64-bit window moved up by so many places; what goes past its end is dropped
-abbrev pub shifted : ℕ → ℕ → ℕ
-shifted w places = if ltb places 64 then w * 2 ^ places % 2 ^ 64 else 0
+abbrev pub shifted : (window places : ℕ) → ℕ
+shifted window places = if ltb places 64 then window * 2 ^ places % 2 ^ 64 else 0
 
--- the record with a number taken: the window moves so far as the highest number rises, and then the number's bit is set
-abbrev pub taken : Receive → ℕ → Receive
-taken r number =
+-- the record with a number accepted: the window moves so far as the highest number rises, and then the number's bit is set
+abbrev pub withNumber : (r : Receive) (number : ℕ) → Receive
+withNumber r number =
     record {
       highest = max number (r .highest);
       window = shifted (r .window) (max number (r .highest) - r .highest) + 2 ^ (max number (r .highest) - number);
@@ -43,18 +43,18 @@ taken r number =
 
 -- "number 0, or number plus 64 not above H: 8197; accepted before: 8194; integrity no: 24; else accepted"; integrity is what the caller
 -- says of it
-unfoldable pub judged : Receive → ℕ → Bool → Judged
+unfoldable pub judged : (r : Receive) (number : ℕ) (integrity : Bool) → Judged
 judged r number integrity =
     if behind (r .highest) number then record { receive = r; verdict = Refused 8197 }
     else if acceptedBefore r number then record { receive = r; verdict = Refused 8194 }
     else if not integrity then record { receive = r; verdict = Refused 24 }
-    else record { receive = taken r number; verdict = Accepted }
+    else record { receive = withNumber r number; verdict = Accepted }
 
 -- "A loss line gives H, the lesser of H and 64, and how many of those last numbers were accepted": ones counted in the window
-abbrev pub lossLine : Receive → LossLine
+abbrev pub lossLine : (r : Receive) → LossLine
 lossLine r = record { highest = r .highest; span = min (r .highest) 64; count = ones (r .window) }
 
 -- the paper's number and values for each case
-unfoldable pub answer : Verdict → Answer
-answer Accepted = done (1 ∷ [])
-answer (Refused number) = refused number
+unfoldable pub verdictAnswer : (verdict : Verdict) → Answer
+verdictAnswer Accepted = done (1 ∷ [])
+verdictAnswer (Refused number) = refused number

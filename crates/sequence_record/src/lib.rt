@@ -2,7 +2,7 @@
 // value and comes back; `step_in_place` is the same step where the caller's record stands.
 ghost use mathlib.Core.Path.{_≡_};
 ghost use Prim.Native.Nat.{min, _<_, _≤_};
-ghost use Rattle.sequence_record.specs.Receive.{fresh, behind, shifted, judged, lossLine};
+ghost use Rattle.sequence_record.specs.Receive.{newReceive, behind, shifted, judged, lossLine};
 
 // A number's place in the window is how far it lies below the highest: bit 0 of the window is the highest itself.
 #[repr(C)]
@@ -29,8 +29,8 @@ pub struct LossLine {
 }
 
 // The record with which a life begins.
-pub fn fresh() -> Receive
-    ensures { λ r. ⌜ r ≡ fresh ⌝ }
+pub fn new_receive() -> Receive
+    ensures { λ r. ⌜ r ≡ newReceive ⌝ }
 {
     Receive {
         highest: 0,

@@ -4,18 +4,18 @@ use mathlib.Core.Path.{_≡_, refl, sym, _∙_}
 use mathlib.Core.List.{List}
 use mathlib.Core.Bool.{Bool, true, false, not, _&&_}
 use native.Mathlib.Omega.{arith}
-use lib.ListN.{getD, set}
+use lib.ListN.{set}
 use lib.Dec.{eqb}
 use borrow.Author.Tests.{lt-ltb, le-ltb, le-leb, lt-leb, eq-eqb, ne-eqb}
 use Rattle.wire_read.specs.Tests.{if_then_else_}
-use Rattle.sequence_record.specs.Receive.{fresh, judged, lossLine}
+use Rattle.sequence_record.specs.Receive.{newReceive, judged, lossLine}
 use Rattle.sequence_record.specs.declared.Receive.{Receive}
 use Rattle.sequence_record.specs.declared.Judged.{Judged}
 use Rattle.sequence_record.specs.declared.Verdict.the-variants.{Refused}
 use Rattle.sequence_packet.specs.Packets.{known, read}
 use Rattle.sequence_packet.specs.declared.Packet.{Packet}
 use Rattle.sequence_packet.specs.declared.Packet.the-variants as Packets
-use Rattle.sequence_table.specs.Table.{rooms, words, holds, isFree, firstPlace, find, free, entryAt, putEntry, putKey, emptied, added, removed, judgedAt, packetRead, packet, handedOut, sent, loss}
+use Rattle.sequence_table.specs.Table.{Table, rooms, words, word, mark, holds, isFree, firstPlace, find, free, putKey, emptied, newEntry, withReceive, withCounter, entryAt, putEntry, added, removed, judgedAt, packetRead, packet, handedOut, nextToSend, loss}
 use Rattle.sequence_record.specs.declared.Verdict.the-variants as Verdicts
 use Rattle.sequence_record.specs.declared.LossLine.{LossLine}
 use Rattle.sequence_table.specs.declared.table.Key.{Key}
@@ -24,14 +24,14 @@ use Rattle.sequence_table.specs.declared.table.Outcome.the-variants as O
 use Rattle.sequence_table.specs.declared.table.Sending.the-variants as Sendings
 use Rattle.sequence_table.specs.declared.table.Counted.the-variants as Counts
 
-module _ (t : List ℕ) (key : Key) (i : ℕ) where
-  pub holds-spi : getD t (i * words + 2) 0 ≡ key .spi → (eqb (getD t (i * words) 0) (key .protocol + 1) && eqb (getD t (i * words + 1) 0) (key .destination)) ≡ holds t key i
+module _ (t : Table) (key : Key) (i : ℕ) where
+  pub holds-spi : word t i 2 ≡ key .spi → (eqb (mark t i) (key .protocol + 1) && eqb (word t i 1) (key .destination)) ≡ holds t key i
   unfolding holds
-  holds-spi e = rw (eq-eqb (getD t (i * words + 2) 0) (key .spi) e)
+  holds-spi e = rw (eq-eqb (word t i 2) (key .spi) e)
 
-  pub holds-not : (getD t (i * words + 2) 0 ≡ key .spi → ⊥) → false ≡ holds t key i
+  pub holds-not : (word t i 2 ≡ key .spi → ⊥) → false ≡ holds t key i
   unfolding holds
-  holds-not e = rw (ne-eqb (getD t (i * words + 2) 0) (key .spi) e)
+  holds-not e = rw (ne-eqb (word t i 2) (key .spi) e)
 
 first-step : (test : ℕ → Bool) (i : ℕ) → i < rooms → firstPlace test (rooms - i) i ≡ (if test i then i else firstPlace test (rooms - (i + 1)) (i + 1))
 unfolding firstPlace
@@ -50,18 +50,18 @@ module _ (test : ℕ → Bool) (i x : ℕ) (so-far : firstPlace test (rooms - i)
     pub first-on : b ≡ false → firstPlace test (rooms - (i + 1)) (i + 1) ≡ x
     first-on h = sym (first-step test i more ∙ rw (← eb, h)) ∙ so-far
 
-module _ (t : List ℕ) (i : ℕ) (so-far : firstPlace (isFree t) (rooms - i) i ≡ free t) (more : i < rooms) where
-  pub free-here : getD t (i * words) 0 ≡ 0 → i ≡ free t
+module _ (t : Table) (i : ℕ) (so-far : firstPlace (isFree t) (rooms - i) i ≡ free t) (more : i < rooms) where
+  pub free-here : mark t i ≡ 0 → i ≡ free t
   unfolding isFree
-  free-here h = first-here (isFree t) i (free t) so-far more true (sym (eq-eqb (getD t (i * words) 0) 0 h)) refl
+  free-here h = first-here (isFree t) i (free t) so-far more true (sym (eq-eqb (mark t i) 0 h)) refl
 
-  pub free-on : (getD t (i * words) 0 ≡ 0 → ⊥) → firstPlace (isFree t) (rooms - (i + 1)) (i + 1) ≡ free t
+  pub free-on : (mark t i ≡ 0 → ⊥) → firstPlace (isFree t) (rooms - (i + 1)) (i + 1) ≡ free t
   unfolding isFree
-  free-on h = first-on (isFree t) i (free t) so-far more false (sym (ne-eqb (getD t (i * words) 0) 0 h)) refl
+  free-on h = first-on (isFree t) i (free t) so-far more false (sym (ne-eqb (mark t i) 0 h)) refl
 
 -- ---- calls
 
-module _ (t : List ℕ) (key : Key) (k : Bool) (ek : k ≡ known (key .protocol)) where
+module _ (t : Table) (key : Key) (k : Bool) (ek : k ≡ known (key .protocol)) where
   pub add-unknown : not k ≡ true → added t key ≡ (Outcomes.Refused 10, t)
   unfolding added
   add-unknown h = rw (← ek, h)
@@ -81,13 +81,13 @@ module _ (t : List ℕ) (key : Key) (k : Bool) (ek : k ≡ known (key .protocol)
         unfolding added
         add-full l = rw (← ek, h, le-ltb (key .spi) 256 high, ← ei, le-ltb i rooms absent, ← ej, le-leb rooms j l)
 
-        pub add-done : j < rooms → (keyed done : List ℕ) (r : Receive) → keyed ≡ putKey t j key → r ≡ fresh →
-            done ≡ putEntry keyed j (record { receive = r; sent = 0 }) → added t key ≡ (Outcomes.Done, done)
+        pub add-done : j < rooms → (keyed done : Table) (r : Receive) → keyed ≡ putKey t j key → r ≡ newReceive →
+            done ≡ putEntry keyed j (withReceive newEntry r) → added t key ≡ (Outcomes.Done, done)
         unfolding added
         add-done l keyed done r e1 e2 e3 =
             rw (← ek, h, le-ltb (key .spi) 256 high, ← ei, le-ltb i rooms absent, ← ej, lt-leb rooms j l, e3, e2, e1)
 
-module _ (t : List ℕ) (key : Key) (i : ℕ) (ei : i ≡ find t key) where
+module _ (t : Table) (key : Key) (i : ℕ) (ei : i ≡ find t key) where
   pub remove-absent : rooms ≤ i → removed t key ≡ (Outcomes.Refused 11, t)
   unfolding removed
   remove-absent h = rw (← ei, le-leb rooms i h)
@@ -96,8 +96,8 @@ module _ (t : List ℕ) (key : Key) (i : ℕ) (ei : i ≡ find t key) where
   unfolding removed emptied
   remove-done h = rw (← ei, lt-leb rooms i h)
 
-  pub send-absent : rooms ≤ i → sent t key ≡ (Sendings.Refused 11, t)
-  unfolding sent
+  pub send-absent : rooms ≤ i → nextToSend t key ≡ (Sendings.Refused 11, t)
+  unfolding nextToSend
   send-absent h = rw (← ei, le-leb rooms i h)
 
   pub loss-absent : rooms ≤ i → Counts.Refused 11 ≡ loss t key
@@ -105,20 +105,20 @@ module _ (t : List ℕ) (key : Key) (i : ℕ) (ei : i ≡ find t key) where
   loss-absent h = rw (← ei, le-leb rooms i h)
 
   module _ (present : i < rooms) (e : Entry) (ee : e ≡ entryAt t i) where
-    pub send-end : 4294967295 ≤ e .sent → sent t key ≡ (Sendings.Refused 8198, t)
-    unfolding sent handedOut
-    send-end h = rw (← ei, lt-leb rooms i present, ← ee, le-leb 4294967295 (e .sent) h)
+    pub send-end : 4294967295 ≤ e .counter → nextToSend t key ≡ (Sendings.Refused 8198, t)
+    unfolding nextToSend handedOut
+    send-end h = rw (← ei, lt-leb rooms i present, ← ee, le-leb 4294967295 (e .counter) h)
 
-    pub send-done : e .sent < 4294967295 → (done : List ℕ) → done ≡ putEntry t i (record { receive = e .receive; sent = e .sent + 1 }) →
-        sent t key ≡ (Sendings.Number (e .sent + 1), done)
-    unfolding sent handedOut
-    send-done h done ed = rw (← ei, lt-leb rooms i present, ← ee, lt-leb 4294967295 (e .sent) h, ed)
+    pub send-done : e .counter < 4294967295 → (done : Table) → done ≡ putEntry t i (withCounter e (e .counter + 1)) →
+        nextToSend t key ≡ (Sendings.Number (e .counter + 1), done)
+    unfolding nextToSend handedOut
+    send-done h done ed = rw (← ei, lt-leb rooms i present, ← ee, lt-leb 4294967295 (e .counter) h, ed)
 
     pub loss-done : (l : LossLine) → l ≡ lossLine (e .receive) → Counts.Line l ≡ loss t key
     unfolding loss
     loss-done l el = rw (← ei, lt-leb rooms i present, ← ee, el)
 
-module _ (t s : List ℕ) (destination protocol : ℕ) (integrity : Bool) (p : Packet) (ep : p ≡ read protocol s) where
+module _ (t : Table) (s : List ℕ) (destination protocol : ℕ) (integrity : Bool) (p : Packet) (ep : p ≡ read protocol s) where
   pub packet-unread : (number : ℕ) → p ≡ Packets.Refused number → packet t destination protocol integrity s ≡ (Verdicts.Refused number, t)
   unfolding packet packetRead
   packet-unread number e = rw (← ep, e)
@@ -129,7 +129,7 @@ module _ (t s : List ℕ) (destination protocol : ℕ) (integrity : Bool) (p : P
     packet-absent h = rw (← ep, e, ← ei, le-leb rooms i h)
 
     pub packet-judged : i < rooms → (x : Entry) → x ≡ entryAt t i → (j : Judged) → j ≡ judged (x .receive) number integrity →
-        (done : List ℕ) → done ≡ putEntry t i (record { receive = j .receive; sent = x .sent }) →
+        (after : Entry) → after ≡ withReceive x (j .receive) → (done : Table) → done ≡ putEntry t i after →
         packet t destination protocol integrity s ≡ (j .verdict, done)
     unfolding packet packetRead judgedAt
-    packet-judged h x ex j ej done ed = rw (← ep, e, ← ei, lt-leb rooms i h, ← ex, ← ej, ed)
+    packet-judged h x ex j ej after ea done ed = rw (← ep, e, ← ei, lt-leb rooms i h, ← ex, ← ej, ed, ea)

@@ -1,17 +1,17 @@
 // The table of 64 SA entries, in words that the caller lends; all words zero is the empty table. Any words at all get an answer.
-//   a room  mark (0: free, else the protocol plus 1), destination, SPI, highest, window, sent
+//   a room  mark (0: free, else the protocol plus 1), destination, SPI, highest, window, counter
 use sequence_packet::Packet;
 use sequence_packet::known;
 use sequence_packet::read;
 use sequence_record::LossLine;
 use sequence_record::Receive;
 use sequence_record::Verdict;
-use sequence_record::fresh;
 use sequence_record::loss_line;
+use sequence_record::new_receive;
 use sequence_record::step;
 ghost use mathlib.Core.Path.{_≡_};
 ghost use Prim.Native.Nat.{_<_};
-ghost use Rattle.sequence_table.specs.Table.{rooms, holds, find, free, entryAt, putEntry, putKey, added, removed, packet, sent, loss};
+ghost use Rattle.sequence_table.specs.Table.{rooms, holds, find, free, putKey, withReceive, entryAt, putEntry, added, removed, packet, nextToSend, loss};
 
 pub const ROOMS: usize = 64;
 
@@ -25,10 +25,10 @@ pub struct Key {
     pub spi: u32,
 }
 
-// What an entry keeps of its life beside its key. `sent` is the number last handed out for sending.
+// What an entry keeps of its life beside its key. `counter` is the number last handed out for sending.
 pub struct Entry {
     pub receive: Receive,
-    pub sent: u64,
+    pub counter: u64,
 }
 
 pub enum Outcome {
@@ -47,11 +47,11 @@ pub enum Counted {
 }
 
 // Whether a room holds a life of the key. The SPI comes first, since it parts most keys: the search runs through all rooms.
-fn holds(t: &Table, key: Key, i: usize) -> bool
-    requires { ⌜ i < rooms ⌝ }
-    ensures { λ r. ⌜ r ≡ holds (now (t .entry)) key i ⌝ }
+fn holds(t: &Table, key: Key, room: usize) -> bool
+    requires { ⌜ room < rooms ⌝ }
+    ensures { λ r. ⌜ r ≡ holds (now (t .entry)) key room ⌝ }
 {
-    let at = i * WORDS;
+    let at = room * WORDS;
     if t[at + 2] == key.spi as u64 {
         (t[at] == key.protocol as u64 + 1) & (t[at + 1] == key.destination as u64)
     } else {
@@ -63,59 +63,68 @@ fn holds(t: &Table, key: Key, i: usize) -> bool
 fn find(t: &Table, key: Key) -> usize
     ensures { λ r. ⌜ r ≡ find (now (t .entry)) key ⌝ }
 {
-    let mut i = 0;
-    while i < ROOMS {
-        if holds(t, key, i) {
-            return i;
+    let mut room = 0;
+    while room < ROOMS {
+        if holds(t, key, room) {
+            return room;
         }
-        i += 1;
+        room += 1;
     }
-    i
+    room
 }
 
 // The first free room, 64 where there is none.
 fn free(t: &Table) -> usize
     ensures { λ r. ⌜ r ≡ free (now (t .entry)) ⌝ }
 {
-    let mut i = 0;
-    while i < ROOMS {
-        if t[i * WORDS] == 0 {
-            return i;
+    let mut room = 0;
+    while room < ROOMS {
+        if t[room * WORDS] == 0 {
+            return room;
         }
-        i += 1;
+        room += 1;
     }
-    i
+    room
 }
 
-fn entry_at(t: &Table, i: usize) -> Entry
-    requires { ⌜ i < rooms ⌝ }
-    ensures { λ e. ⌜ e ≡ entryAt (now (t .entry)) i ⌝ }
+fn entry_at(t: &Table, room: usize) -> Entry
+    requires { ⌜ room < rooms ⌝ }
+    ensures { λ e. ⌜ e ≡ entryAt (now (t .entry)) room ⌝ }
 {
-    let at = i * WORDS;
+    let at = room * WORDS;
     Entry {
         receive: Receive {
             highest: t[at + 3],
             window: t[at + 4],
         },
-        sent: t[at + 5],
+        counter: t[at + 5],
     }
 }
 
-fn put_entry(t: &mut Table, i: usize, e: Entry)
-    requires { ⌜ i < rooms ⌝ }
-    ensures { λ _. ⌜ now (t .exit) ≡ putEntry (now (t .entry)) i e ⌝ }
+fn with_receive(e: Entry, receive: Receive) -> Entry
+    ensures { λ r. ⌜ r ≡ withReceive e receive ⌝ }
 {
-    let at = i * WORDS;
-    t[at + 3] = e.receive.highest;
-    t[at + 4] = e.receive.window;
-    t[at + 5] = e.sent;
+    Entry {
+        receive,
+        counter: e.counter,
+    }
 }
 
-fn put_key(t: &mut Table, i: usize, key: Key)
-    requires { ⌜ i < rooms ⌝ }
-    ensures { λ _. ⌜ now (t .exit) ≡ putKey (now (t .entry)) i key ⌝ }
+fn put_entry(t: &mut Table, room: usize, e: Entry)
+    requires { ⌜ room < rooms ⌝ }
+    ensures { λ _. ⌜ now (t .exit) ≡ putEntry (now (t .entry)) room e ⌝ }
 {
-    let at = i * WORDS;
+    let at = room * WORDS;
+    t[at + 3] = e.receive.highest;
+    t[at + 4] = e.receive.window;
+    t[at + 5] = e.counter;
+}
+
+fn put_key(t: &mut Table, room: usize, key: Key)
+    requires { ⌜ room < rooms ⌝ }
+    ensures { λ _. ⌜ now (t .exit) ≡ putKey (now (t .entry)) room key ⌝ }
+{
+    let at = room * WORDS;
     t[at] = key.protocol as u64 + 1;
     t[at + 1] = key.destination as u64;
     t[at + 2] = key.spi as u64;
@@ -134,17 +143,17 @@ pub fn add(t: &mut Table, key: Key) -> Outcome
     if find(t, key) < ROOMS {
         return Outcome::Refused(8200);
     }
-    let i = free(t);
-    if ROOMS <= i {
+    let room = free(t);
+    if ROOMS <= room {
         return Outcome::Refused(8199);
     }
-    put_key(t, i, key);
+    put_key(t, room, key);
     put_entry(
         t,
-        i,
+        room,
         Entry {
-            receive: fresh(),
-            sent: 0,
+            receive: new_receive(),
+            counter: 0,
         },
     );
     Outcome::Done
@@ -154,11 +163,11 @@ pub fn add(t: &mut Table, key: Key) -> Outcome
 pub fn remove(t: &mut Table, key: Key) -> Outcome
     ensures { λ r. ⌜ removed (now (t .entry)) key ≡ (r, now (t .exit)) ⌝ }
 {
-    let i = find(t, key);
-    if ROOMS <= i {
+    let room = find(t, key);
+    if ROOMS <= room {
         return Outcome::Refused(11);
     }
-    t[i * WORDS] = 0;
+    t[room * WORDS] = 0;
     Outcome::Done
 }
 
@@ -170,7 +179,7 @@ pub fn packet(t: &mut Table, destination: u32, protocol: u8, integrity: bool, s:
     match p {
         Packet::Refused(number) => Verdict::Refused(number),
         Packet::Read { spi, number } => {
-            let i = find(
+            let room = find(
                 t,
                 Key {
                     destination,
@@ -178,21 +187,14 @@ pub fn packet(t: &mut Table, destination: u32, protocol: u8, integrity: bool, s:
                     spi,
                 },
             );
-            if ROOMS <= i {
+            if ROOMS <= room {
                 return Verdict::Refused(11);
             }
-            let e = entry_at(t, i);
+            let e = entry_at(t, room);
             let receive = e.receive;
             let j = step(receive, number, integrity);
             let after = j.receive;
-            put_entry(
-                t,
-                i,
-                Entry {
-                    receive: after,
-                    sent: e.sent,
-                },
-            );
+            put_entry(t, room, with_receive(e, after));
             j.verdict
         }
     }
@@ -200,26 +202,19 @@ pub fn packet(t: &mut Table, destination: u32, protocol: u8, integrity: bool, s:
 
 // The next number for a packet that the key's life sends.
 pub fn send(t: &mut Table, key: Key) -> Sending
-    ensures { λ r. ⌜ sent (now (t .entry)) key ≡ (r, now (t .exit)) ⌝ }
+    ensures { λ r. ⌜ nextToSend (now (t .entry)) key ≡ (r, now (t .exit)) ⌝ }
 {
-    let i = find(t, key);
-    if ROOMS <= i {
+    let room = find(t, key);
+    if ROOMS <= room {
         return Sending::Refused(11);
     }
-    let e = entry_at(t, i);
-    let receive = e.receive;
-    let last = e.sent;
+    let mut e = entry_at(t, room);
+    let last = e.counter;
     if 4294967295 <= last {
         return Sending::Refused(8198);
     }
-    put_entry(
-        t,
-        i,
-        Entry {
-            receive,
-            sent: last + 1,
-        },
-    );
+    e.counter = last + 1;
+    put_entry(t, room, e);
     Sending::Number((last + 1) as u32)
 }
 
@@ -227,11 +222,11 @@ pub fn send(t: &mut Table, key: Key) -> Sending
 pub fn loss(t: &Table, key: Key) -> Counted
     ensures { λ r. ⌜ r ≡ loss (now (t .entry)) key ⌝ }
 {
-    let i = find(t, key);
-    if ROOMS <= i {
+    let room = find(t, key);
+    if ROOMS <= room {
         return Counted::Refused(11);
     }
-    let e = entry_at(t, i);
+    let e = entry_at(t, room);
     let receive = e.receive;
     Counted::Line(loss_line(receive))
 }

@@ -15,5 +15,6 @@ packet-spec =
     (λ c κs. search needs)
     (λ c κs. search needs)
     (λ c κs. search needs)
+    (λ c κs. search needs)
     (λ c. search packet-unread)
     (λ c. search packet-judged))
