@@ -1,5 +1,13 @@
 pub mod DemandThree
 pub mod OneAnswer
+pub mod OneAnswerWire
+pub mod OneAnswerAlone
+pub mod OneAnswerSa
+pub mod OneAnswerMessage
+pub mod OneAnswerPolicy
+pub mod OneAnswerQuick
+pub mod OneAnswerSequence
+pub mod OneAnswerExports
 pub mod Messages
 pub mod Marked
 pub mod Port4500
