@@ -1,20 +1,31 @@
-//! What the house keeps, checked from the sources: every public function has a contract, a row in docs/CONTRACTS.md and a theorem that
-//! it has one answer; every must-fail edit is in that page; no axiom is declared; the pages name only files that exist; each sample
-//! answers as its page says, and README.md shows what it does. `house ROOT BENCH VERDICT`; the last line is `N passed, M failed`.
+//! What the house keeps, checked from the sources: every public function has a contract, a row in docs/CONTRACTS.md, a must-fail edit and a
+//! theorem that it has one answer; that page's column of edits and the diagram in docs/ARCHITECTURE.md are as they are made from the
+//! sources; no axiom is declared; the pages name only files and crates that exist, and docs/RULES.md only names of the sources; each
+//! sample answers as its page says, and README.md shows what it does. `house ROOT BENCH VERDICT`; the last line is `N passed, M failed`.
+//! `house --write ROOT` makes the column and the diagram anew (tools/pages).
 
+mod diagram;
+mod edits;
 mod sources;
 
+use std::collections::HashSet;
 use std::fs;
 use std::io::Write;
-use std::path::Path;
+use std::path::{Path, PathBuf};
 use std::process::{Command, ExitCode, Stdio};
 
+use diagram::families;
 use sources::{below, public_functions, PublicFunction};
+
+const CONTRACTS: &str = "docs/CONTRACTS.md";
+const ARCHITECTURE: &str = "docs/ARCHITECTURE.md";
+const RULES: &str = "docs/RULES.md";
 
 const PAGES: &[&str] = &[
     "README.md",
-    "docs/ARCHITECTURE.md",
-    "docs/CONTRACTS.md",
+    RULES,
+    ARCHITECTURE,
+    CONTRACTS,
     "docs/DECISIONS.md",
     "docs/NUMBERS.md",
     "tests/README.md",
@@ -42,16 +53,24 @@ impl Tally {
 
 fn main() -> ExitCode {
     let arguments: Vec<String> = std::env::args().collect();
+    if let [_, write, root] = &arguments[..] {
+        if write == "--write" {
+            return ExitCode::from(u8::from(!write_pages(Path::new(root))));
+        }
+    }
     let [_, root, bench, verdict] = &arguments[..] else {
-        eprintln!("house ROOT BENCH VERDICT");
+        eprintln!("house ROOT BENCH VERDICT, or house --write ROOT");
         return ExitCode::from(2);
     };
     let root = Path::new(root);
     let mut tally = Tally::default();
     contracts(root, &mut tally);
-    edits(root, &mut tally);
+    edits_named(root, &mut tally);
+    made(root, &mut tally);
+    crates(root, &mut tally);
     axioms(root, &mut tally);
     named_files(root, &mut tally);
+    named_definitions(root, &mut tally);
     scripts(root, bench, &mut tally);
     verdicts(root, verdict, &mut tally);
     shown(root, &mut tally);
@@ -64,30 +83,89 @@ fn text(path: &Path) -> String {
 }
 
 fn contracts(root: &Path, tally: &mut Tally) {
-    let page = text(&root.join("docs/CONTRACTS.md"));
-    let theorems = text(&root.join("crates/promises/specs/OneAnswer.antt"));
+    let page = text(&root.join(CONTRACTS));
+    let rows = edits::rows(&page);
+    let edits = edits::edits(&root.join("crates"));
+    let theorems = one_answer(root);
     let functions = public_functions(&root.join("crates"));
     tally.fact(!functions.is_empty(), || "no public function was found".into());
     for PublicFunction { krate, name, contract } in functions {
-        let theorem = format!("{krate}-{}", name.replace('_', "-"));
         tally.fact(contract.contains("ensures"), || format!("{krate}::{name} ensures nothing"));
         tally.fact(!contract.contains("requires"), || format!("{krate}::{name} requires something"));
-        tally.fact(page.contains(&format!("| `{name}(")), || {
-            format!("docs/CONTRACTS.md has no row for {krate}::{name}")
+        tally.fact(rows.contains(&(krate.clone(), name.clone())), || {
+            format!("{CONTRACTS} has no row for {krate}::{name}")
         });
-        tally.fact(page.contains(&format!("`{theorem}`")), || format!("docs/CONTRACTS.md does not name {theorem}"));
-        tally.fact(theorems.contains(&format!("pub {theorem} :")), || {
-            format!("OneAnswer.antt has no theorem {theorem}")
+        if excepted(&page, &krate, &name) {
+            continue;
+        }
+        let theorem = format!("{krate}-{name}").replace('_', "-");
+        tally.fact(theorems.contains(&format!("pub {theorem} :")), || format!("there is no theorem {theorem}"));
+        tally.fact(edits.iter().any(|edit| edit.krate == krate && edit.names.contains(&name)), || {
+            format!("no must-fail edit names {krate}::{name}")
         });
     }
 }
 
-fn edits(root: &Path, tally: &mut Tally) {
-    let page = text(&root.join("docs/CONTRACTS.md"));
-    for path in below(&root.join("crates"), "edit") {
-        let label = path.file_stem().unwrap().to_string_lossy().into_owned();
-        tally.fact(page.contains(&format!("`{label}`")), || {
-            format!("docs/CONTRACTS.md does not name the edit {}", path.display())
+/// The theorems that a contract has one answer, of all families.
+fn one_answer(root: &Path) -> String {
+    let files = below(&root.join("crates/promises/specs"), "antt");
+    let of_answers =
+        |path: &&PathBuf| path.file_name().is_some_and(|name| name.to_string_lossy().starts_with("OneAnswer"));
+    files.iter().filter(of_answers).map(|path| text(path)).collect()
+}
+
+/// Whether the page's part "Exceptions" names this function, whose contract need then not have one answer alone.
+fn excepted(page: &str, krate: &str, name: &str) -> bool {
+    let part = page.split("\n## Exceptions\n").nth(1).and_then(|rest| rest.split("\n## ").next());
+    part.is_some_and(|part| part.contains(&format!("`{krate}::{name}`")))
+}
+
+fn edits_named(root: &Path, tally: &mut Tally) {
+    let rows = edits::rows(&text(&root.join(CONTRACTS)));
+    for edit in edits::edits(&root.join("crates")) {
+        let label = format!("crates/{}/must-fail/{}.edit", edit.krate, edit.label);
+        tally.fact(!edit.names.is_empty(), || format!("{label} does not begin with `# NAME: what it gets wrong`"));
+        for name in edit.names {
+            tally.fact(rows.contains(&(edit.krate.clone(), name.clone())), || {
+                format!("{label} names {name}, for which {CONTRACTS} has no row under {}", edit.krate)
+            });
+        }
+    }
+}
+
+/// The pages that have made parts, each as it stands and as it is made.
+fn made_pages(root: &Path) -> [(&'static str, String, String); 2] {
+    let contracts = text(&root.join(CONTRACTS));
+    let architecture = text(&root.join(ARCHITECTURE));
+    let column = edits::written(&contracts, &edits::edits(&root.join("crates")));
+    let diagram = diagram::written(&architecture, &families(&text(&root.join("crates.txt"))));
+    [(CONTRACTS, contracts, column), (ARCHITECTURE, architecture, diagram)]
+}
+
+fn made(root: &Path, tally: &mut Tally) {
+    for (page, stands, made) in made_pages(root) {
+        tally.fact(stands == made, || format!("{page} is not as it is made: run tools/pages"));
+    }
+    let drawn = text(&root.join(ARCHITECTURE)).contains("```mermaid\nflowchart");
+    tally.fact(drawn, || format!("{ARCHITECTURE} has no diagram"));
+}
+
+fn write_pages(root: &Path) -> bool {
+    made_pages(root).iter().all(|(page, _, made)| match fs::write(root.join(page), made) {
+        Ok(()) => true,
+        Err(why) => {
+            eprintln!("house: cannot write {page}: {why}");
+            false
+        }
+    })
+}
+
+/// Every crate has a row in docs/ARCHITECTURE.md that says what it is for.
+fn crates(root: &Path, tally: &mut Tally) {
+    let page = text(&root.join(ARCHITECTURE));
+    for krate in families(&text(&root.join("crates.txt"))).iter().flat_map(|family| &family.crates) {
+        tally.fact(page.contains(&format!("\n| `{}` | ", krate.name)), || {
+            format!("{ARCHITECTURE} has no row for the crate {}", krate.name)
         });
     }
 }
@@ -117,6 +195,28 @@ fn named_files(root: &Path, tally: &mut Tally) {
             }
         }
     }
+}
+
+/// What the last column of docs/RULES.md has between backticks, and is no file, is a word of the sources. The notation is explained there
+/// in a table of its own, which is passed over.
+fn named_definitions(root: &Path, tally: &mut Tally) {
+    let is_part = |c: char| c.is_alphanumeric() || "_-'".contains(c);
+    let mut words = HashSet::new();
+    for ending in ["antt", "rt"] {
+        for path in below(&root.join("crates"), ending) {
+            words.extend(text(&path).split(|c| !is_part(c)).map(String::from));
+        }
+    }
+    let page = text(&root.join(RULES));
+    let rows = page.lines().filter(|line| line.starts_with("| \"") || line.starts_with("| demand"));
+    let cells = rows.filter_map(|row| row.trim_end_matches([' ', '|']).rsplit(" | ").next());
+    let mut found = 0;
+    for named in cells.flat_map(|cell| cell.split('`').skip(1).step_by(2)).filter(|named| !named.contains('/')) {
+        let name = named.split(|c| !is_part(c)).next().unwrap_or("");
+        tally.fact(words.contains(name), || format!("{RULES} names {named}, which the sources do not have"));
+        found += 1;
+    }
+    tally.fact(found > 0, || format!("{RULES} names no definition"));
 }
 
 /// samples/X.lines is a script for bench, and samples/X.answers what it answers.
