@@ -7,8 +7,8 @@ use crate::number::Number;
 use crate::say;
 use crate::say::append;
 use crate::words;
-use sequence_record::new_receive;
 use sequence_record::loss_line;
+use sequence_record::new_receive;
 use sequence_record::step_lent;
 use wire_read::equal;
 

@@ -69,8 +69,28 @@ table =
     ∷ []
 
 pub marked : map (λ (e : Example). e .defined) table ≡ map (λ (e : Example). e .printed) table
-unfolding table example numberAt allZero tagWrong constructed headSize bodySize contents size list filled element isElement isName attributes.sentFixed attributes.attributeType attributes.attributeSize attributes.afterAttribute coding.outOfBounds attributes.find attributes.attribute coding.mustBeFixed coding.fixedWrong coding.isDuration coding.durationWrong coding.attributeCode coding.attributesFrom coding.attributesCode transforms.nextWanted transforms.transformWrong transforms.transformCode transforms.transformsCode proposals.proposalWrong proposals.has proposals.with proposals.none proposals.setBefore proposals.orderWrong proposals.protocolWrong proposals.spiWrong proposals.countWrong proposals.transformBytes proposals.innerCode proposals.proposalCode proposals.proposalsCode proposals.offerCode header.lengthWrong header.majorWrong header.minorWrong header.exchangeRefused header.exchangeUnknown header.flagsWrong header.cookieZero header.messageIdWrong header.flaggedLengthWrong header.noPayload header.headerCode payloads.typeWrong payloads.lengthOut payloads.bodyCode payloads.bodyOf payloads.payloadCode payloads.restCode message.inFront message.chain message.reading message.messageAnswer message.shown message.shownPayloads
-    packetsOf lastOf lossOf answered answeredAll bytesOf receive.judged receive.verdictAnswer packets.read packets.esp tables.holds tables.isFree tables.firstPlace tables.find tables.free tables.entryAt tables.putEntry tables.putKey tables.added tables.judgedAt tables.packetRead tables.packet tables.loss tables.outcomeAnswer tables.countedAnswer ones
-    both mainBook quickBook attributes.value attributes.attributeCount parts.skip parts.parts items.firstItem items.afterItem sets.setEnd sets.firstSet sets.afterSet sets.set sets.setCount items.proposal items.proposalCount fields.proposalNumber fields.protocol fields.transformCount items.transform fields.transformNumber fields.transformId fields.attributesOf lines.quickStart lines.quickCount lines.bookSize lines.mainSeconds lines.quickAt lines.quickProtocols lines.quickMode lines.quickSeconds books.mainLineLawful books.quickLineLawful books.mainLinesLawful books.quickLinesLawful books.bookInFront books.bookRead suits.present suits.valueIs suits.lifeWithin suits.nothingSurplus suits.mainValues suits.mainSuits suits.quickId suits.quickAuthentication suits.quickSuits suits.suitsLine suits.transformSuits suits.lowestFrom suits.lowest suits.protocolsAlone suits.protocolsBoth suits.protocolsSuit suits.setSuits choices.lineCount choices.lineFrom choices.firstLine choices.numberOf choices.transformsOf choices.chosen choices.setFrom choices.chooseFrom choices.bodyAt choices.saFrom choices.messageChoice choices.bookChoice choices.choice choices.choiceAnswer message.exchangeAndCount message.message message.walk message.payloadAt
-    fresh.ownOf messages.hash messages.padding messages.padded messages.header messages.messageOf messages.messageThree head headed paste
+unfolding table example numberAt allZero tagWrong constructed headSize bodySize contents size list filled element isElement isName
+    attributes.sentFixed attributes.attributeType attributes.attributeSize attributes.afterAttribute coding.outOfBounds attributes.find
+    attributes.attribute coding.mustBeFixed coding.fixedWrong coding.isDuration coding.durationWrong coding.attributeCode
+    coding.attributesFrom coding.attributesCode transforms.nextWanted transforms.transformWrong transforms.transformCode
+    transforms.transformsCode proposals.proposalWrong proposals.has proposals.with proposals.none proposals.setBefore proposals.orderWrong
+    proposals.protocolWrong proposals.spiWrong proposals.countWrong proposals.transformBytes proposals.innerCode proposals.proposalCode
+    proposals.proposalsCode proposals.offerCode header.lengthWrong header.majorWrong header.minorWrong header.exchangeRefused
+    header.exchangeUnknown header.flagsWrong header.cookieZero header.messageIdWrong header.flaggedLengthWrong header.noPayload
+    header.headerCode payloads.typeWrong payloads.lengthOut payloads.bodyCode payloads.bodyOf payloads.payloadCode payloads.restCode
+    message.inFront message.chain message.reading message.messageAnswer message.shown message.shownPayloads packetsOf lastOf lossOf answered
+    answeredAll bytesOf receive.judged receive.verdictAnswer packets.read packets.esp tables.holds tables.isFree tables.firstPlace
+    tables.find tables.free tables.entryAt tables.putEntry tables.putKey tables.added tables.judgedAt tables.packetRead tables.packet
+    tables.loss tables.outcomeAnswer tables.countedAnswer ones both mainBook quickBook attributes.value attributes.attributeCount parts.skip
+    parts.parts items.firstItem items.afterItem sets.setEnd sets.firstSet sets.afterSet sets.set sets.setCount items.proposal
+    items.proposalCount fields.proposalNumber fields.protocol fields.transformCount items.transform fields.transformNumber
+    fields.transformId fields.attributesOf lines.quickStart lines.quickCount lines.bookSize lines.mainSeconds lines.quickAt
+    lines.quickProtocols lines.quickMode lines.quickSeconds books.mainLineLawful books.quickLineLawful books.mainLinesLawful
+    books.quickLinesLawful books.bookInFront books.bookRead suits.present suits.valueIs suits.lifeWithin suits.nothingSurplus
+    suits.mainValues suits.mainSuits suits.quickId suits.quickAuthentication suits.quickSuits suits.suitsLine suits.transformSuits
+    suits.lowestFrom suits.lowest suits.protocolsAlone suits.protocolsBoth suits.protocolsSuit suits.setSuits choices.lineCount
+    choices.lineFrom choices.firstLine choices.numberOf choices.transformsOf choices.chosen choices.setFrom choices.chooseFrom
+    choices.bodyAt choices.saFrom choices.messageChoice choices.bookChoice choices.choice choices.choiceAnswer message.exchangeAndCount
+    message.message message.walk message.payloadAt fresh.ownOf messages.hash messages.padding messages.padded messages.header
+    messages.messageOf messages.messageThree head headed paste
 marked = refl
