@@ -51,7 +51,8 @@ unread protocol s n =
     of (not (known protocol)) (eqb protocol 2) (leb 12 (length s) && eqb (ahReserved s) 0 && leb 12 (ahSize s) && leb (ahSize s) (length s)) (leb 8 (length s))
   where
     of : (a b c d : Bool) →
-        (if a then Refused 10 else if b then (if c then Read (ahSpi s) (ahNumber s) else Refused 16) else (if d then Read (espSpi s) (espNumber s) else Refused 16)) ≡ Refused n →
+        (if a then Refused 10 else if b then (if c then Read (ahSpi s) (ahNumber s) else Refused 16)
+        else (if d then Read (espSpi s) (espNumber s) else Refused 16)) ≡ Refused n →
         eqb n 0 ≡ false
     of true b c d h = let e : 10 ≡ n = cc in rw (← e)
     of false true true d h = never (cc)
@@ -74,14 +75,16 @@ module _ (t : Table) (past : List Event) (k : Keeping t past) where
     begins-life : lives key past ≡ false → leb rooms (entries past) ≡ false → Keeping (begun t key) (record { call = adds key; answer = done (1 ∷ []) } ∷ past)
     unfolding lives accepted handed entries keyOf
     begins-life l f =
-        keeps-added k key (lifeOf (record { call = adds key; answer = done (1 ∷ []) } ∷ past)) (λ b d. rw (same-not key b d)) (ltb-false (find t key) rooms (k .present key ∙ l))
+        keeps-added k key (lifeOf (record { call = adds key; answer = done (1 ∷ []) } ∷ past)) (λ b d. rw (same-not key b d))
+        (ltb-false (find t key) rooms (k .present key ∙ l))
         (leb-false rooms (free t) (full-taken t ∙ ap (leb rooms) (k .many) ∙ f))
         (rw (same-self key))
 
     ends-life : lives key past ≡ true → Keeping (emptied t (find t key)) (record { call = removes key; answer = done (1 ∷ []) } ∷ past)
     unfolding lives accepted handed entries keyOf
     ends-life l =
-        keeps-removed k key (lifeOf (record { call = removes key; answer = done (1 ∷ []) } ∷ past)) (λ b d. rw (same-not key b d)) (ltb-true (find t key) rooms (k .present key ∙ l)) (rw (same-self key))
+        keeps-removed k key (lifeOf (record { call = removes key; answer = done (1 ∷ []) } ∷ past)) (λ b d. rw (same-not key b d))
+        (ltb-true (find t key) rooms (k .present key ∙ l)) (rw (same-self key))
 
     adds-rightly : Rightly t past (adds key)
     unfolding answered right added outcomeAnswer
@@ -95,8 +98,10 @@ module _ (t : Table) (past : List Event) (k : Keeping t past) where
         (λ e3. rightly t past (adds key) (refused 8200) t (rw (e1, e2, k .present key, e3)) (rw (e1, e2, e3)) (quiet (adds key) 8200 refl))
         (λ e3.
         by-test (leb rooms (entries past))
-        (λ e4. rightly t past (adds key) (refused 8199) t (rw (e1, e2, k .present key, e3, full-taken t, k .many, e4)) (rw (e1, e2, e3, e4)) (quiet (adds key) 8199 refl))
-        (λ e4. rightly t past (adds key) (done (1 ∷ [])) (begun t key) (rw (e1, e2, k .present key, e3, full-taken t, k .many, e4)) (rw (e1, e2, e3, e4)) (begins-life e3 e4)))))
+        (λ e4. rightly t past (adds key) (refused 8199) t (rw (e1, e2, k .present key, e3, full-taken t, k .many, e4)) (rw (e1, e2, e3, e4))
+        (quiet (adds key) 8199 refl))
+        (λ e4. rightly t past (adds key) (done (1 ∷ [])) (begun t key) (rw (e1, e2, k .present key, e3, full-taken t, k .many, e4))
+        (rw (e1, e2, e3, e4)) (begins-life e3 e4)))))
         (λ e1. rightly t past (adds key) (refused 10) t (rw e1) (rw e1) (quiet (adds key) 10 refl))
 
     removes-rightly : Rightly t past (removes key)

@@ -29,7 +29,8 @@ use Rattle.sequence_history.proofs.Table.{begun, Apart, apart-entry, ap
 -- ---- a new life starts empty, whatever words the table had
 
 -- adding is refused, or begins a life in a free room
-by-adding : (t : Table) (key : Key) (A : Outcome × Table → Type 0) → ((n : ℕ) → A (Outcomes.Refused n, t)) → (rooms ≤ find t key → free t < rooms → A (Outcomes.Done, begun t key)) → A (added t key)
+by-adding : (t : Table) (key : Key) (A : Outcome × Table → Type 0) → ((n : ℕ) → A (Outcomes.Refused n, t)) →
+    (rooms ≤ find t key → free t < rooms → A (Outcomes.Done, begun t key)) → A (added t key)
 unfolding added
 by-adding t key A refused begins-it =
     by-test (not (known (key .protocol))) (λ e1. rw e1 (refused 10))
@@ -38,7 +39,8 @@ by-adding t key A refused begins-it =
     (λ e2.
     by-test (ltb (find t key) rooms) (λ e3. rw (e1, e2, e3) (refused 8200))
     (λ e3.
-    by-test (leb rooms (free t)) (λ e4. rw (e1, e2, e3, e4) (refused 8199)) (λ e4. rw (e1, e2, e3, e4) (begins-it (ltb-false (find t key) rooms e3) (leb-false rooms (free t) e4))))))
+    by-test (leb rooms (free t)) (λ e4. rw (e1, e2, e3, e4) (refused 8199))
+    (λ e4. rw (e1, e2, e3, e4) (begins-it (ltb-false (find t key) rooms e3) (leb-false rooms (free t) e4))))))
 
 module _ (t u : Table) (key : Key) (long : length t ≡ rooms * words) where
   abbrev Begun : Type 0
@@ -46,7 +48,8 @@ module _ (t u : Table) (key : Key) (long : length t ≡ rooms * words) where
 
   adding-done : added t key ≡ (Outcomes.Done, u) → Begun
   adding-done =
-      by-adding t key (λ x. x ≡ (Outcomes.Done, u) → Begun) (λ n h. let e : Outcomes.Refused n ≡ Outcomes.Done = ap (λ (p : Outcome × Table). p .0) h in never (cc))
+      by-adding t key (λ x. x ≡ (Outcomes.Done, u) → Begun)
+      (λ n h. let e : Outcomes.Refused n ≡ Outcomes.Done = ap (λ (p : Outcome × Table). p .0) h in never (cc))
       (λ a f h. (sym (ap (λ (p : Outcome × Table). p .1) h), (a, f)))
 
   module _ (adding : added t key ≡ (Outcomes.Done, u)) where
@@ -78,7 +81,8 @@ apart-none : (t : Table) (b : Key) → Apart t t b
 apart-none t b = record { found = refl; entry = refl }
 
 module _ (t : Table) (long : length t ≡ rooms * words) (b : Key) where
-  apart-packet : (destination protocol : ℕ) (integrity : Bool) (p : Packet) → (keyRead destination protocol p ≡ b → ⊥) → Apart t (packetRead t destination protocol integrity p .1) b
+  apart-packet : (destination protocol : ℕ) (integrity : Bool) (p : Packet) → (keyRead destination protocol p ≡ b → ⊥) →
+      Apart t (packetRead t destination protocol integrity p .1) b
   unfolding packetRead judgedAt
   apart-packet destination protocol integrity (Refused number) d = apart-none t b
   apart-packet destination protocol integrity (Read spi number) d =
@@ -169,7 +173,8 @@ lent-from-new key packets numbers c t u long adding =
 -- ---- a refusal changes nothing, whatever words the table has
 
 module _ (t : Table) where
-  unchanged-packet : (destination protocol : ℕ) (integrity : Bool) (p : Packet) → isDone (verdictAnswer (packetRead t destination protocol integrity p .0)) ≡ false →
+  unchanged-packet : (destination protocol : ℕ) (integrity : Bool) (p : Packet) →
+      isDone (verdictAnswer (packetRead t destination protocol integrity p .0)) ≡ false →
       packetRead t destination protocol integrity p .1 ≡ t
   unfolding packetRead judgedAt
   unchanged-packet destination protocol integrity (Refused number) h = refl

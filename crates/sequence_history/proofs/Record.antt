@@ -4,9 +4,9 @@ use Prim.Native.Nat.{ℕ, zero, suc, _+_, _-_, _*_, _/_, _%_, _^_, _≤_, _<_, m
 use mathlib.Core.Path.{_≡_, refl, sym, ap, ap₂, _∙_}
 use mathlib.Core.Bool.{Bool, true, false, _||_}
 use mathlib.Core.List.{List, [], _∷_}
-use native.Mathlib.Nat.{mod-lt, zero-div, mod-eq-of-lt, add-zero, add-suc}
+use native.Mathlib.Nat.{mod-lt, mod-eq-of-lt, add-zero, add-suc}
 use native.Mathlib.Omega.{arith}
-use borrow.Author.Tests.{lt-ltb, eq-eqb, ne-eqb, eqb-true, eqb-false, leb-true, leb-false, ltb-true, ltb-false}
+use borrow.Author.Tests.{eq-eqb, ne-eqb, eqb-true, eqb-false, leb-true, leb-false, ltb-true, ltb-false}
 use lib.Dec.{eqb, leb, ltb, lit<}
 use lib.Pow.{pow-pos, mod-pow-add}
 use lib.Count.{ones, ones-cat}
@@ -15,7 +15,7 @@ use Rattle.wire_read.specs.Answer.{Answer}
 use Rattle.wire_read.proofs.Tests.{clash, neither, by-test}
 use Rattle.sequence_record.specs.declared.Receive.{Receive}
 use Rattle.sequence_record.specs.Receive.{newReceive, bit, behind, acceptedBefore, shifted, withNumber, judged, verdictAnswer}
-use Rattle.sequence_record.proofs.Bits.{set-lt, set-same, set-other, shl-low, shl-high}
+use Rattle.sequence_record.proofs.Bits.{set-lt, set-same, set-other, zero-bit, shifted-lt, shifted-low, shifted-high}
 use Rattle.sequence_history.specs.History.{isDone, highest, member, one, sum, recent, rightNumber}
 
 -- the record shows the accepted numbers h
@@ -36,20 +36,6 @@ live n h f = let both = neither (eqb n 0) (leb (n + 64) h) f in (eqb-false n 0 (
 one-eqb : (b : Bool) → eqb (one b) 1 ≡ b
 one-eqb true = refl
 one-eqb false = refl
-
--- ---- the digits of a shifted word
-
-zero-bit : (j : ℕ) → bit 0 j ≡ 0
-zero-bit j = ap (λ (x : ℕ). x % 2) (zero-div (2 ^ j))
-
-low : (w d j : ℕ) → j < 64 → j < d → bit (shifted w d) j ≡ 0
-low w d j h l = by-test (ltb d 64) (λ e. simp e (shl-low 64 d j w h l)) (λ e. simp e (zero-bit j))
-
-high : (w d j : ℕ) → j < 64 → d ≤ j → bit (shifted w d) j ≡ bit w (j - d)
-high w d j h l = simp (lt-ltb d 64 (omega arith)) (shl-high 64 d j w h l)
-
-shifted-lt : (w d : ℕ) → shifted w d < 2 ^ 64
-shifted-lt w d = by-test (ltb d 64) (λ e. simp e (mod-lt (w * 2 ^ d) (pow-pos 64))) (λ e. simp e (lit< tt))
 
 -- ---- one step
 
@@ -80,11 +66,11 @@ module _ (r : Receive) (h : List ℕ) (s : Shows r h) (n : ℕ) where
     before : (k : ℕ) → k < 64 → bit (shifted w (up - hi)) k ≡ one (member (up - k) h)
     before k l =
         by-test (ltb k (up - hi))
-        (λ e. let q : k < up - hi = ltb-true k (up - hi) e in low w (up - hi) k l q ∙ ap one (sym (above h (up - k) (omega arith))))
+        (λ e. let q : k < up - hi = ltb-true k (up - hi) e in shifted-low w (up - hi) k l q ∙ ap one (sym (above h (up - k) (omega arith))))
         (λ e.
         let q : up - hi ≤ k = ltb-false k (up - hi) e in
         let same : hi - (k - (up - hi)) ≡ up - k = omega arith in
-        high w (up - hi) k l q ∙ s .bits (k - (up - hi)) (omega arith) ∙ ap (λ (m : ℕ). one (member m h)) same)
+        shifted-high w (up - hi) k l q ∙ s .bits (k - (up - hi)) (omega arith) ∙ ap (λ (m : ℕ). one (member m h)) same)
 
     place : up - n < 64
     place = omega arith
@@ -124,14 +110,16 @@ abbrev pub after : Answer → ℕ → List ℕ → List ℕ
 after a n h = if isDone a then n ∷ h else h
 
 -- a refusal leaves the record as it is
-pub judged-refused : (r : Receive) (n : ℕ) (integrity : Bool) → isDone (verdictAnswer (judged r n integrity .verdict)) ≡ false → judged r n integrity .receive ≡ r
+pub judged-refused : (r : Receive) (n : ℕ) (integrity : Bool) → isDone (verdictAnswer (judged r n integrity .verdict)) ≡ false →
+    judged r n integrity .receive ≡ r
 unfolding judged verdictAnswer
 judged-refused r n integrity h =
     by-test (behind (r .highest) n) (λ b. rw b)
     (λ b. by-test (acceptedBefore r n) (λ again. rw (b, again)) (λ again. by-test integrity (λ w. clash (sym (rw (b, again, w) at h))) (λ w. rw (b, again, w))))
 
 pub one-step : (r : Receive) (h : List ℕ) → Shows r h → (n : ℕ) (integrity : Bool)
-    → (verdictAnswer (judged r n integrity .verdict) ≡ rightNumber h n integrity) × Shows (judged r n integrity .receive) (after (rightNumber h n integrity) n h)
+    → (verdictAnswer (judged r n integrity .verdict) ≡ rightNumber h n integrity)
+    × Shows (judged r n integrity .receive) (after (rightNumber h n integrity) n h)
 unfolding judged rightNumber verdictAnswer
 one-step r h s n integrity =
     let top : behind (r .highest) n ≡ behind (highest h) n = ap (λ (x : ℕ). behind x n) (s .top) in
@@ -139,7 +127,8 @@ one-step r h s n integrity =
     (λ b.
     let again = before-member r h s n b in
     by-test (member n h) (λ m. rw (top, b, again, m) (refl, s))
-    (λ m. by-test integrity (λ w. rw (top, b, again, m, w) (refl, takes r h s n (live n (highest h) b .0) (live n (highest h) b .1) m)) (λ w. rw (top, b, again, m, w) (refl, s))))
+    (λ m. by-test integrity (λ w. rw (top, b, again, m, w) (refl, takes r h s n (live n (highest h) b .0) (live n (highest h) b .1) m))
+    (λ w. rw (top, b, again, m, w) (refl, s))))
 
 pub starts : Shows newReceive []
 starts = record { top = refl; fits = lit< tt; bits = λ k l. zero-bit k; no-zero = refl }
@@ -182,7 +171,8 @@ ones-sum w k h = ap ones (sym (mod-eq-of-lt h)) ∙ low-sum w k
 pub count-right : (r : Receive) (h : List ℕ) → Shows r h → ones (r .window) ≡ recent h
 count-right r h s =
     let f : ℕ → ℕ = λ k. one (member (highest h - k) h) in
-    let low-end : (k : ℕ) → highest h ≤ k → f k ≡ 0 = λ k l. let z : highest h - k ≡ 0 = omega arith in ap (λ (x : ℕ). one (member x h)) z ∙ ap one (s .no-zero) in
+    let low-end : (k : ℕ) → highest h ≤ k → f k ≡ 0 =
+    λ k l. let z : highest h - k ≡ 0 = omega arith in ap (λ (x : ℕ). one (member x h)) z ∙ ap one (s .no-zero) in
     ones-sum (r .window) 64 (s .fits) ∙ sum-same (bit (r .window)) f 64 (s .bits)
     ∙ by-test (leb (highest h) 64)
     (λ e.

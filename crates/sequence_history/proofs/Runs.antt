@@ -25,7 +25,8 @@ use Rattle.sequence_history.proofs.Calls.{Keeping, unread, call-rightly
 answers-agree : (calls : List Call) (t : Table) (past : List Event) → Keeping t past → answeredAll t past calls ≡ rightAll past calls
 unfolding answeredAll rightAll
 answers-agree [] t past k = refl
-answers-agree (c ∷ calls) t past k = let q = call-rightly t past k c in rw (q .0) (answers-agree calls (answered t c .1) (record { call = c; answer = right past c } ∷ past) (q .1))
+answers-agree (c ∷ calls) t past k =
+    let q = call-rightly t past k c in rw (q .0) (answers-agree calls (answered t c .1) (record { call = c; answer = right past c } ∷ past) (q .1))
 
 -- For every sequence of calls from an empty table, every answer is the one worked out afresh from the list of what came before.
 pub answers-right : (calls : List Call) → answeredAll empty [] calls ≡ rightAll [] calls
@@ -42,7 +43,8 @@ all-keep P f (c ∷ calls) past h = all-keep P f calls (record { call = c; answe
 by-deed : (past : List Event) (key : Key) (c : Call) (A : Deed → Type 0) → A none → (isDone (right past c) ≡ true → keyOf c ≡ key → A (deed c (right past c))) →
     A (deedFor key (record { call = c; answer = right past c }))
 by-deed past key c A nothing its =
-    by-test (isDone (right past c)) (λ h. by-test (same (keyOf c) key) (λ e. rw (h, e) (its h (same-true (keyOf c) key e))) (λ e. rw (h, e) nothing)) (λ h. rw h nothing)
+    by-test (isDone (right past c)) (λ h. by-test (same (keyOf c) key) (λ e. rw (h, e) (its h (same-true (keyOf c) key e))) (λ e. rw (h, e) nothing))
+    (λ h. rw h nothing)
 
 -- ---- once only
 
@@ -51,7 +53,8 @@ accepts-new : (numbers : List ℕ) (n : ℕ) (integrity : Bool) → isDone (righ
 unfolding rightNumber
 accepts-new numbers n integrity = of (eqb n 0 || leb (n + 64) (highest numbers)) (member n numbers) integrity
   where
-    of : (b again integrity : Bool) → isDone (if b then refused 8197 else if again then refused 8194 else if not integrity then refused 24 else done (1 ∷ [])) ≡ true → again ≡ false
+    of : (b again integrity : Bool) →
+        isDone (if b then refused 8197 else if again then refused 8194 else if not integrity then refused 24 else done (1 ∷ [])) ≡ true → again ≡ false
     of true again integrity h = clash h
     of false true integrity h = clash h
     of false false integrity h = refl
@@ -66,7 +69,8 @@ module _ (past : List Event) (key : Key) (distinct : Distinct (accepted key past
   kept-distinct none h = distinct
 
   packet-new : (destination protocol : ℕ) (integrity : Bool) (s : List ℕ) (p : Packet) → read protocol s ≡ p →
-      isDone (rightPacket past destination protocol integrity p) ≡ true → keyRead destination protocol p ≡ key → member (numberRead p) (accepted key past) ≡ false
+      isDone (rightPacket past destination protocol integrity p) ≡ true → keyRead destination protocol p ≡ key →
+      member (numberRead p) (accepted key past) ≡ false
   unfolding rightPacket
   packet-new destination protocol integrity s (Refused n) is h e = clash (sym (unread protocol s n is) ∙ h)
   packet-new destination protocol integrity s (Read spi n) is h e =
@@ -89,7 +93,8 @@ module _ (past : List Event) (key : Key) (distinct : Distinct (accepted key past
 
   stays-distinct : (c : Call) → Distinct (accepted key (record { call = c; answer = right past c } ∷ past))
   unfolding accepted
-  stays-distinct c = by-deed past key c (λ d. Distinct (acceptedAfter d (accepted key past))) distinct (λ h e. kept-distinct (deed c (right past c)) (right-new c h e))
+  stays-distinct c =
+      by-deed past key c (λ d. Distinct (acceptedAfter d (accepted key past))) distinct (λ h e. kept-distinct (deed c (right past c)) (right-new c h e))
 
 -- No sequence number is accepted twice in one life of an SA.
 pub once-only : (calls : List Call) (key : Key) → Distinct (accepted key (answeredAll empty [] calls))
@@ -121,16 +126,19 @@ module _ (past : List Event) (key : Key) (counting : handed key past ≡ countdo
   right-hands (sends k) h e n d = rw (← e) (of (lives k past) (leb 4294967295 (length (handed k past))) h (cc))
     where
       of : (a b : Bool) → isDone (if not a then refused 11 else if b then refused 8198 else done ((length (handed k past) + 1) ∷ [])) ≡ true →
-          getD ((if not a then refused 11 else if b then refused 8198 else done ((length (handed k past) + 1) ∷ [])) .values) 0 0 ≡ n → n ≡ length (handed k past) + 1
+          getD ((if not a then refused 11 else if b then refused 8198 else done ((length (handed k past) + 1) ∷ [])) .values) 0 0 ≡ n →
+          n ≡ length (handed k past) + 1
       of true true h g = clash h
       of true false h g = sym g
       of false b h g = clash h
   right-hands (asks k) h e n d = never (cc)
 
-  stays-counting : (c : Call) → handed key (record { call = c; answer = right past c } ∷ past) ≡ countdown (length (handed key (record { call = c; answer = right past c } ∷ past)))
+  stays-counting : (c : Call) →
+      handed key (record { call = c; answer = right past c } ∷ past) ≡ countdown (length (handed key (record { call = c; answer = right past c } ∷ past)))
   unfolding handed
   stays-counting c =
-      by-deed past key c (λ d. handedAfter d (handed key past) ≡ countdown (length (handedAfter d (handed key past)))) counting (λ h e. kept-counting (deed c (right past c)) (right-hands c h e))
+      by-deed past key c (λ d. handedAfter d (handed key past) ≡ countdown (length (handedAfter d (handed key past)))) counting
+      (λ h e. kept-counting (deed c (right past c)) (right-hands c h e))
 
 -- The numbers handed out for sending in one life are 1, 2, 3, ..
 pub sending-counts : (calls : List Call) (key : Key) → handed key (answeredAll empty [] calls) ≡ countdown (length (handed key (answeredAll empty [] calls)))

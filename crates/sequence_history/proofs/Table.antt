@@ -1,4 +1,5 @@
--- The table against what came before: a table that keeps the lives of a list of events answers each call rightly and keeps them afterwards.
+-- What a table keeps of the lives in it: how many rooms are taken, what an entry that is put, begun or emptied leaves of its own key and
+-- of others, and so of all lives together.
 use Prim.Native.Nat.{ℕ, zero, suc, _+_, _-_, _*_, _≤_, _<_}
 use mathlib.Core.Path.{_≡_, refl, sym, ap, _∙_}
 use mathlib.Core.Bool.{Bool, true, false, not, _&&_}
@@ -136,7 +137,9 @@ module _ (t : Table) (key b : Key) (d : key ≡ b → ⊥) where
         elsewhere e = let there : find t b < rooms = omega arith in clash (sym free-no ∙ rw e at (L.find-holds t b there))
 
         new-no : holds (putKey t (free t) key) b (free t) ≡ false
-        new-no = by-test (holds (putKey t (free t) key) b (free t)) (λ h. absurd (d (L.holds-one (putKey t (free t) key) (free t) key b (L.holds-put t (free t) key long l) h))) (λ h. h)
+        new-no =
+            by-test (holds (putKey t (free t) key) b (free t))
+            (λ h. absurd (d (L.holds-one (putKey t (free t) key) (free t) key b (L.holds-put t (free t) key long l) h))) (λ h. h)
 
         room : (j : ℕ) → j < rooms → holds (putKey t (free t) key) b j ≡ holds t b j
         room j g =
@@ -221,13 +224,16 @@ by-key a b f g = by-test (same a b) (λ e. f (same-true a b e)) (λ e. g (λ q. 
 -- what the lives are may be said in other words
 pub keeps-said : {t : Table} {life life′ : Key → Life} {entries entries′ : ℕ} →
     Keeps t life entries → ((b : Key) → life′ b ≡ life b) → entries′ ≡ entries → Keeps t life′ entries′
-keeps-said k l n = record { long = k .long; only = k .only; present = λ b. rw (l b) (k .present b); entry = λ b g. rw (l b) (k .entry b g); many = k .many ∙ sym n }
+keeps-said k l n =
+    record { long = k .long; only = k .only; present = λ b. rw (l b) (k .present b); entry = λ b g. rw (l b) (k .entry b g); many = k .many ∙ sym n }
 
-module _ {t : Table} {life : Key → Life} {entries : ℕ} (k : Keeps t life entries) (key : Key) (life′ : Key → Life) (others : (b : Key) → (key ≡ b → ⊥) → life′ b ≡ life b) where
+module _ {t : Table} {life : Key → Life} {entries : ℕ} (k : Keeps t life entries) (key : Key) (life′ : Key → Life)
+    (others : (b : Key) → (key ≡ b → ⊥) → life′ b ≡ life b) where
   -- a table that differs in the key alone
   keeps-changed : (u : Table) (entries′ : ℕ) → ((b : Key) → (key ≡ b → ⊥) → Apart t u b) → length u ≡ length t →
       ((b : Key) (i j : ℕ) → i < rooms → j < rooms → holds u b i ≡ true → holds u b j ≡ true → i ≡ j) →
-      ltb (find u key) rooms ≡ life′ key .lives → (find u key < rooms → Tells (entryAt u (find u key)) (life′ key)) → takenRooms u ≡ entries′ → Keeps u life′ entries′
+      ltb (find u key) rooms ≡ life′ key .lives → (find u key < rooms → Tells (entryAt u (find u key)) (life′ key)) → takenRooms u ≡ entries′ →
+      Keeps u life′ entries′
   keeps-changed u entries′ apart long only own-present own-entry many = record {
     long = long ∙ k .long;
     only = only;

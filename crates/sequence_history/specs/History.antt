@@ -193,7 +193,8 @@ right past (asks key) =
 unfoldable pub answered : (t : Table) (c : Call) → Answer × Table
 answered t (adds key) = (outcomeAnswer (added t key .0), added t key .1)
 answered t (removes key) = (outcomeAnswer (removed t key .0), removed t key .1)
-answered t (shows destination protocol integrity s) = (verdictAnswer (packet t destination protocol integrity s .0), packet t destination protocol integrity s .1)
+answered t (shows destination protocol integrity s) =
+    (verdictAnswer (packet t destination protocol integrity s .0), packet t destination protocol integrity s .1)
 answered t (sends key) = (sendingAnswer (nextToSend t key .0), nextToSend t key .1)
 answered t (asks key) = (countedAnswer (loss t key), t)
 

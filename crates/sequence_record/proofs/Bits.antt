@@ -1,11 +1,15 @@
--- The binary digits of a word: of a word in which one digit is set, and of a shift to the left that drops what goes past the top.
+-- The binary digits of a word: of a word in which one digit is set, of a shift to the left that drops what goes past the top, and of
+-- a shifted window.
 use mathlib.Core.Path.{_≡_, refl, sym, ap, ap₂, _∙_}
 use Prim.Native.Nat.{ℕ, zero, suc, _+_, _-_, _*_, _/_, _%_, _^_, _≤_, _<_}
-use native.Mathlib.Nat.{pow-suc, mul-comm, mul-one, add-zero, add-suc, div-div-eq-div-mul}
+use native.Mathlib.Nat.{pow-suc, mul-comm, mul-one, add-zero, add-suc, zero-div, mod-lt, div-div-eq-div-mul}
 use native.Mathlib.Omega.{arith}
-use lib.Pow.{field, mod-mod-pow}
+use lib.Dec.{ltb, lit<}
+use lib.Pow.{field, mod-mod-pow, pow-pos}
 use lib.Bits.{shifted-half, shifted-even}
-use Rattle.sequence_record.specs.Receive.{bit}
+use borrow.Author.Tests.{lt-ltb}
+use Rattle.wire_read.proofs.Tests.{by-test}
+use Rattle.sequence_record.specs.Receive.{bit, shifted}
 
 bit-zero : (w : ℕ) → bit w 0 ≡ w % 2
 bit-zero w = omega arith
@@ -61,10 +65,24 @@ mod-bit m j x h =
     let e : m ≡ a + 1 + j = omega arith in
     ap (λ (n : ℕ). bit (x % 2 ^ n) j) e ∙ ap (λ (y : ℕ). y % 2) (field x (a + 1) j) ∙ mod-mod-pow (x / 2 ^ j) a 1
 
-pub shl-low : (m d j w : ℕ) → j < m → j < d → bit (w * 2 ^ d % 2 ^ m) j ≡ 0
+shl-low : (m d j w : ℕ) → j < m → j < d → bit (w * 2 ^ d % 2 ^ m) j ≡ 0
 shl-low m d j w h l = mod-bit m j (w * 2 ^ d) h ∙ mul-low d j w l
 
-pub shl-high : (m d j w : ℕ) → j < m → d ≤ j → bit (w * 2 ^ d % 2 ^ m) j ≡ bit w (j - d)
+shl-high : (m d j w : ℕ) → j < m → d ≤ j → bit (w * 2 ^ d % 2 ^ m) j ≡ bit w (j - d)
 shl-high m d j w h l =
     let e : j ≡ (j - d) + d = omega arith in
     mod-bit m j (w * 2 ^ d) h ∙ ap (bit (w * 2 ^ d)) e ∙ mul-high d (j - d) w
+
+-- ---- a shifted window
+
+pub zero-bit : (k : ℕ) → bit 0 k ≡ 0
+zero-bit k = ap (λ (x : ℕ). x % 2) (zero-div (2 ^ k))
+
+pub shifted-lt : (w d : ℕ) → shifted w d < 2 ^ 64
+shifted-lt w d = by-test (ltb d 64) (λ e. rw e (mod-lt (w * 2 ^ d) (pow-pos 64))) (λ e. rw e (lit< tt))
+
+pub shifted-low : (w d k : ℕ) → k < 64 → k < d → bit (shifted w d) k ≡ 0
+shifted-low w d k h l = by-test (ltb d 64) (λ e. rw e (shl-low 64 d k w h l)) (λ e. rw e (zero-bit k))
+
+pub shifted-high : (w d k : ℕ) → k < 64 → d ≤ k → bit (shifted w d) k ≡ bit w (k - d)
+shifted-high w d k h l = rw (lt-ltb d 64 (omega arith)) (shl-high 64 d k w h l)

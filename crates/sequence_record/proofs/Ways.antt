@@ -2,17 +2,17 @@
 use Prim.Native.Nat.{ℕ, _+_, _-_, _*_, _/_, _%_, _^_, _≤_, _<_, min}
 use mathlib.Core.Path.{_≡_, sym, ap, _∙_}
 use mathlib.Core.Bool.{Bool, true, false, not}
-use native.Mathlib.Nat.{max-eq-left, max-eq-right, sub-self, mul-one, one-mul, mod-eq-of-lt, mod-lt, le-of-lt}
+use native.Mathlib.Nat.{max-eq-left, max-eq-right, sub-self, mul-one, one-mul, mod-eq-of-lt, le-of-lt}
 use native.Mathlib.Omega.{arith}
-use lib.Dec.{ltb, leb, eqb, lit<}
+use lib.Dec.{leb, eqb, lit<}
 use lib.Count.{ones}
-use lib.Pow.{pow-lt, pow-pos}
+use lib.Pow.{pow-lt}
 use borrow.Author.Tests.{lt-ltb, le-ltb, le-leb, lt-leb, ne-eqb, eqb-false, leb-false}
-use Rattle.wire_read.proofs.Tests.{neither, by-test}
+use Rattle.wire_read.proofs.Tests.{neither}
 use Rattle.sequence_record.specs.Receive.{bit, behind, acceptedBefore, shifted, withNumber, judged, lossLine}
 use Rattle.sequence_record.specs.declared.Receive.{Receive}
 use Rattle.sequence_record.specs.declared.Verdict.the-variants.{Accepted, Refused}
-use Rattle.sequence_record.proofs.Bits.{set-lt, shl-low}
+use Rattle.sequence_record.proofs.Bits.{set-lt, shifted-lt, shifted-low}
 
 pub far : (w places : ℕ) → 64 ≤ places → 0 ≡ shifted w places
 far w places h = rw (le-ltb places 64 h)
@@ -26,12 +26,6 @@ one-shl k h = ap (λ (x : ℕ). x % 2 ^ 64) (one-mul (2 ^ k)) ∙ mod-eq-of-lt (
 -- a digit that is not 1 is 0
 not-one : (x : ℕ) → (x % 2 ≡ 1 → ⊥) → x % 2 ≡ 0
 not-one x h = omega arith
-
-shifted-lt : (w d : ℕ) → shifted w d < 2 ^ 64
-shifted-lt w d = by-test (ltb d 64) (λ e. rw e (mod-lt (w * 2 ^ d) (pow-pos 64))) (λ e. rw e (lit< tt))
-
-shifted-even : (w d : ℕ) → 0 < d → bit (shifted w d) 0 ≡ 0
-shifted-even w d h = by-test (ltb d 64) (λ e. rw e (shl-low 64 d 0 w (lit< tt) h)) (λ e. rw e)
 
 module _ (r : Receive) (n : ℕ) (integrity : Bool) where
   -- a number above the highest: neither behind the window nor accepted before
@@ -48,7 +42,9 @@ module _ (r : Receive) (n : ℕ) (integrity : Bool) where
 
     module _ (s : ℕ) (es : s ≡ shifted (r .window) (n - r .highest)) where
       pub above-fits : s + 1 < 2 ^ 64
-      above-fits = rw es (set-lt 64 0 (shifted (r .window) (n - r .highest)) (lit< tt) (shifted-lt (r .window) (n - r .highest)) (shifted-even (r .window) (n - r .highest) (omega arith)))
+      above-fits =
+          rw es (set-lt 64 0 (shifted (r .window) (n - r .highest)) (lit< tt) (shifted-lt (r .window) (n - r .highest))
+          (shifted-low (r .window) (n - r .highest) 0 (lit< tt) (omega arith)))
 
       above-with-number : record { highest = n; window = s + 1 } ≡ withNumber r n
       above-with-number = rw (es, max-eq-left (le-of-lt l), sub-self n)
@@ -87,7 +83,8 @@ module _ (r : Receive) (n : ℕ) (integrity : Bool) where
           late-with-number = rw (max-eq-right l, sub-self (r .highest), one-shl (r .highest - n) within, mul-one (r .window), mod-eq-of-lt f)
 
           pub late-accepted : not integrity ≡ false →
-              record { receive = record { highest = r .highest; window = r .window + 1 * 2 ^ (r .highest - n) % 2 ^ 64 }; verdict = Accepted } ≡ judged r n integrity
+              record { receive = record { highest = r .highest; window = r .window + 1 * 2 ^ (r .highest - n) % 2 ^ 64 }; verdict = Accepted }
+              ≡ judged r n integrity
           unfolding judged
           late-accepted h = rw (← eb, live, le-leb n (r .highest) l, unmarked, h, late-with-number)
 

@@ -1,4 +1,4 @@
--- The laws of specs/Table.antt that the promises cite: what a search finds, and what a call leaves in each room.
+-- The laws of specs/Table.antt that the history rests on: what a search finds, and what a call leaves in each room.
 use Prim.Native.Nat.{ℕ, zero, suc, _+_, _-_, _*_, _≤_, _<_}
 use mathlib.Core.Path.{_≡_, refl, sym, ap, _∙_}
 use mathlib.Core.List.{List, [], _∷_}
@@ -118,7 +118,8 @@ free-holds t i key h =
 -- ---- words written from a place of a room on
 
 -- every word but these stays
-run-other : (ws : List ℕ) (t : Table) (i place k : ℕ) → (i * words + place ≤ k → k < i * words + place + length ws → ⊥) → getD (putWords t i place ws) k 0 ≡ getD t k 0
+run-other : (ws : List ℕ) (t : Table) (i place k : ℕ) → (i * words + place ≤ k → k < i * words + place + length ws → ⊥) →
+    getD (putWords t i place ws) k 0 ≡ getD t k 0
 run-other [] t i place k out = refl
 run-other (w ∷ ws) t i place k out =
     run-other ws (set t (i * words + place) w) i (place + 1) k (λ a b. out (omega arith) (omega arith))

@@ -11,7 +11,6 @@ use Rattle.wire_read.specs.Tests.{if_then_else_}
 use Rattle.sequence_record.specs.Receive.{newReceive, judged, lossLine}
 use Rattle.sequence_record.specs.declared.Receive.{Receive}
 use Rattle.sequence_record.specs.declared.Judged.{Judged}
-use Rattle.sequence_record.specs.declared.Verdict.the-variants.{Refused}
 use Rattle.sequence_packet.specs.Packets.{known, read}
 use Rattle.sequence_packet.specs.declared.Packet.{Packet}
 use Rattle.sequence_packet.specs.declared.Packet.the-variants as Packets
@@ -123,7 +122,8 @@ module _ (t : Table) (s : List ℕ) (destination protocol : ℕ) (integrity : Bo
   unfolding packet packetRead
   packet-unread number e = rw (← ep, e)
 
-  module _ (spi number : ℕ) (e : p ≡ Packets.Read spi number) (i : ℕ) (ei : i ≡ find t (record { destination = destination; protocol = protocol; spi = spi })) where
+  module _ (spi number : ℕ) (e : p ≡ Packets.Read spi number) (i : ℕ)
+      (ei : i ≡ find t (record { destination = destination; protocol = protocol; spi = spi })) where
     pub packet-absent : rooms ≤ i → packet t destination protocol integrity s ≡ (Verdicts.Refused 11, t)
     unfolding packet packetRead
     packet-absent h = rw (← ep, e, ← ei, le-leb rooms i h)

@@ -13,11 +13,13 @@ use Rattle.exports.proofs.chosen_packed.Statement.{statement}
 use Rattle.exports.proofs.chosen_packed.Tie as tie
 
 module _ (set : ProposalNumber) (line : LineNumber) (transforms : Transforms) where
-  packed-one : (t : TransformNumber) → transforms ≡ One t → 4294967296 + (16777216 * set .0 + 65536 * line .0) + 256 * t .0 ≡ choicePacked (Chosen set line transforms)
+  packed-one : (t : TransformNumber) → transforms ≡ One t →
+      4294967296 + (16777216 * set .0 + 65536 * line .0) + 256 * t .0 ≡ choicePacked (Chosen set line transforms)
   unfolding choicePacked
   packed-one t is = rw is
 
-  packed-two : (t u : TransformNumber) → transforms ≡ Two t u → 8589934592 + (16777216 * set .0 + 65536 * line .0) + 256 * t .0 + u .0 ≡ choicePacked (Chosen set line transforms)
+  packed-two : (t u : TransformNumber) → transforms ≡ Two t u →
+      8589934592 + (16777216 * set .0 + 65536 * line .0) + 256 * t .0 + u .0 ≡ choicePacked (Chosen set line transforms)
   unfolding choicePacked
   packed-two t u is = rw is
 

@@ -16,7 +16,8 @@ module _ (answer said : Choice) (same : answer ≡ said) where
   unfolding choicePacked
   packed-refused number is = ap choicePacked (sym is ∙ same)
 
-  packed-chosen : (set : ProposalNumber) (line : LineNumber) (transforms : Transforms) → answer ≡ Chosen set line transforms → (r : ℕ) → r ≡ choicePacked (Chosen set line transforms) → r ≡ choicePacked said
+  packed-chosen : (set : ProposalNumber) (line : LineNumber) (transforms : Transforms) → answer ≡ Chosen set line transforms → (r : ℕ) →
+      r ≡ choicePacked (Chosen set line transforms) → r ≡ choicePacked said
   packed-chosen set line transforms is r e = e ∙ ap choicePacked (sym is ∙ same)
 
 pub tallowbrim-choose-spec : {M : Type 1} → statement M

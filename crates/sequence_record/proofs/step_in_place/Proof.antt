@@ -80,10 +80,12 @@ module _ {M : Type 1} (𝓤 : URA M) (H : Heap 𝓤) (A : Atoms 𝓤) (at-mem : 
   abbrev Called : Contract 𝓤
   Called = tripleOf 𝓤 H A stepped.signature (stepped.spec 𝓤 H A at-mem run)
 
-  told : (h : Receive) (n : ℕ) (t : Bool) (r : Judged) → ent 𝓤 (ensured 𝓤 H A stepped.ended (stepped.clauses 𝓤 H A at-mem run) tt (h, (n, (t, tt))) tt r) (fact 𝓤 (r ≡ judged h n t))
+  told : (h : Receive) (n : ℕ) (t : Bool) (r : Judged) →
+      ent 𝓤 (ensured 𝓤 H A stepped.ended (stepped.clauses 𝓤 H A at-mem run) tt (h, (n, (t, tt))) tt r) (fact 𝓤 (r ≡ judged h n t))
   told h n t r = exE 𝓤 _ (λ ws. snd∗ 𝓤 (sem 𝓤 H A (lasts stepped.ended tt (h, (n, (t, tt))) ws)) (fact 𝓤 (r ≡ judged h n t)))
 
-module _ {M : Type 1} (𝓤 : URA M) (H : Heap 𝓤) (A : Atoms 𝓤) (W : Given 𝓤 H A) (at-mem : Memory → SProp 𝓤) (run : Routine → Fun 𝓤) (κ : Lft) (q : Share) (b o : ℕ) (γ : GName) (h : Receive) (n : ℕ) (t : Bool) (fits : n < 2 ^ 32) where
+module _ {M : Type 1} (𝓤 : URA M) (H : Heap 𝓤) (A : Atoms 𝓤) (W : Given 𝓤 H A) (at-mem : Memory → SProp 𝓤) (run : Routine → Fun 𝓤) (κ : Lft)
+    (q : Share) (b o : ℕ) (γ : GName) (h : Receive) (n : ℕ) (t : Bool) (fits : n < 2 ^ 32) where
   abbrev x : RefT Receive × (ℕ × (Bool × Unit {0}))
   x = (record { ptr = (b, o); name = γ; now = h }, (n, (t, tt)))
 
@@ -97,7 +99,8 @@ module _ {M : Type 1} (𝓤 : URA M) (H : Heap 𝓤) (A : Atoms 𝓤) (W : Given
       → ent 𝓤 (sep 𝓤 (A .obs γ (R .coded .code (r .receive))) (sep 𝓤 (A .bor κ (Body (mem R) b o γ)) (A .lft κ q))) (Post (ev (r .verdict)))
   exits r e f =
       qed W (‵ (fobs γ (R .coded .code (r .receive))) ∷ ‵ (fbor κ (Body (mem R) b o γ)) ∷ ‵ (flft κ q) ∷ []) ∵
-      suffices ! _ (ends-at 𝓤 H A place.ended stayed (place.clauses 𝓤 H A at-mem run) W (((κ, tt), (q, tt), tt, x, at), tt) (ev (r .verdict)) (r .verdict) (r .receive, (tt, (tt, tt))) (tt, (tt, (tt, tt)))) $
+      suffices ! _ (ends-at 𝓤 H A place.ended stayed (place.clauses 𝓤 H A at-mem run) W (((κ, tt), (q, tt), tt, x, at), tt) (ev (r .verdict))
+      (r .verdict) (r .receive, (tt, (tt, tt))) (tt, (tt, (tt, tt)))) $
       says ! (sym e) $ nothing ! $ move ! (3 ∷ 0 ∷ []) $ join ! $
       frame ! $ feqI ! (List Val) (vptr b o ∷ []) (vptr b o ∷ []) refl $ fjoin3 ! $ nothing ! $ owned ! bool (Is bool) (bool-makes 𝓤 H A W) t _ refl $ fjoin ! $
       owned ! u32 (Is u32) (uint-makes 𝓤 H A W w32) n _ (refl, fits) $ fjoin ! $ move ! (1 ∷ 0 ∷ []) $ fjoin ! $
@@ -121,43 +124,60 @@ module _ {M : Type 1} (𝓤 : URA M) (H : Heap 𝓤) (A : Atoms 𝓤) (W : Given
   module _ (C : Calls 𝓤 H) (Λ : Loops 𝓤 H) (fm : FmC 𝓤 H (W .laws) C) (known : Triple 𝓤 (C #step) (Called 𝓤 H A at-mem run)) where
     walk : ent 𝓤 (onEntry 𝓤 H A place.signature (κ, tt) (q, tt) x at) (WpFn 𝓤 H C Λ code.function (vptr b o ∷ vint w32 n ∷ vbool t ∷ []) Post)
     walk =
-        qed W ((‵ (flft κ q) ⊛ ‵ ftrue) ∷ ‵ (owns (MutRef (named 0) κ R ∷ u32 ∷ bool ∷ []) x at) ∷ []) ∵ enter ! C Λ code.function (vptr b o ∷ vint w32 n ∷ vbool t ∷ []) _ $
+        qed W ((‵ (flft κ q) ⊛ ‵ ftrue) ∷ ‵ (owns (MutRef (named 0) κ R ∷ u32 ∷ bool ∷ []) x at) ∷ []) ∵
+        enter ! C Λ code.function (vptr b o ∷ vint w32 n ∷ vbool t ∷ []) _ $
         alloc1 ! (λ l₀. alloc1 ! (λ l₁. alloc1 ! (λ l₂. alloc1 ! (λ l₃. alloc1 ! (λ l₄. alloc1 ! (λ l₅. alloc0 ! $ params1 ! $
         pass1 ! (init ! 8 refl (tt, tt)) $ pass1 ! (init ! 6 refl (tt, record { fits = fits })) $ pass1 ! (init ! 4 refl (tt, tt)) $ pass0 ! $
         move ! (13 ∷ []) $ fsplit ! $ fsplit3 ! $ drop ! $ move ! (15 ∷ []) $ split ! $ move ! (2 ∷ 3 ∷ 0 ∷ []) $
         opens ! tt R {h = h} b o (λ vs. spelt ! R (Is R) (shows 𝓤 H A R) (LL.vals T.the-type T′.the-laws) (LL.tells T.the-type T′.the-laws) fullShare h vs b o $
         move ! (1 ∷ []) $ peeks ! R (Is R) (shows 𝓤 H A R) h (mach h ∷ []) (λ g. move ! (1 ∷ 0 ∷ []) $
         -- [the record's cell; what it owns; the open borrow; obs; auth; true; the parameters'; _5; …; _4; …; _3; …; _2; …; _1; …; room for _0; …]
-        assigns ! (of-opd ! (load ! (from ! (hop ! (look ! 15 refl) (stop !))) (look-raw ! 0 refl))) (from ! (stop !)) (init ! 7 refl (LL.lawful T.the-type T′.the-laws 𝓤 H A W .typed h _ g .0)) $
+        assigns ! (of-opd ! (load ! (from ! (hop ! (look ! 15 refl) (stop !))) (look-raw ! 0 refl))) (from ! (stop !))
+        (init ! 7 refl (LL.lawful T.the-type T′.the-laws 𝓤 H A W .typed h _ g .0)) $
         move ! (1 ∷ []) $ use1 W (raw (Called 𝓤 H A at-mem run .pre to)) goes-call $
-        calls-at ! fm (Called 𝓤 H A at-mem run) known to (and-then ! (load ! (from ! (stop !)) (look ! 7 refl)) (and-then ! (load ! (from ! (stop !)) (look ! 13 refl)) (and-then ! (load ! (from ! (stop !)) (look ! 11 refl)) (no-more !)))) (λ v.
-        use1 W (later (some (λ (r : Judged). (‵ ftrue ⊛ ‵ (Q .own r (v ∷ []))) ⊛ raw (ensured 𝓤 H A stepped.ended (stepped.clauses 𝓤 H A at-mem run) tt (h, (n, (t, tt))) tt r)))) (id⊢ 𝓤 _) $ await ! tt $ pick ! (λ r.
-        split ! $ move ! (1 ∷ []) $ use1 W (raw (fact 𝓤 (r ≡ judged h n t))) (told 𝓤 H A at-mem run h n t r) $ heard ! (r ≡ judged h n t) (λ e. split ! $ drop ! $
+        calls-at ! fm (Called 𝓤 H A at-mem run) known to
+        (and-then ! (load ! (from ! (stop !)) (look ! 7 refl))
+        (and-then ! (load ! (from ! (stop !)) (look ! 13 refl)) (and-then ! (load ! (from ! (stop !)) (look ! 11 refl)) (no-more !)))) (λ v.
+        use1 W (later (some (λ (r : Judged). (‵ ftrue ⊛ ‵ (Q .own r (v ∷ []))) ⊛ raw (ensured 𝓤 H A stepped.ended
+        (stepped.clauses 𝓤 H A at-mem run) tt (h, (n, (t, tt))) tt r)))) (id⊢ 𝓤 _) $ await ! tt $ pick ! (λ r.
+        split ! $ move ! (1 ∷ []) $ use1 W (raw (fact 𝓤 (r ≡ judged h n t))) (told 𝓤 H A at-mem run h n t r) $
+        heard ! (r ≡ judged h n t) (λ e. split ! $ drop ! $
         peeks ! Q (Is Q) (shows 𝓤 H A Q) r (v ∷ []) (λ is.
         land ! (from ! (stop !)) (init ! 9 refl (LL.lawful O.the-type O′.the-laws 𝓤 H A W .typed r _ is .0)) $
         rewrite ! 9 (λ (y : Val). ‵ (fat fullShare O′.mir l₄ 0 y)) (ap only (LL.tells O.the-type O′.the-laws r (v ∷ []) is)) refl $
         -- [what the outcome owns; the record's cell; the open borrow; obs; auth; true; the parameters'; _5; …; _4; …; _3; …; _2; …; _1; …; room for _0; …]
         assigns ! (of-opd ! (load ! (from ! (fld ! refl (stop !))) (look-in ! 9 (sub ! 0 refl (whole !))))) (from ! (hop ! (look ! 15 refl) (stop !)))
         (store-raw ! 1 refl (LL.lawful T.the-type T′.the-laws 𝓤 H A W .typed (r .receive) _ (of-receive r _ is) .0)) $
-        assigns ! (of-opd ! (load ! (from ! (fld ! refl (stop !))) (look-in ! 9 (sub ! 1 refl (whole !))))) (from ! (stop !)) (init ! 17 refl (EL.lawful E.the-type E′.the-laws 𝓤 H A W tt .typed (r .verdict) _ (of-verdict r _ is) .0)) $
+        assigns ! (of-opd ! (load ! (from ! (fld ! refl (stop !))) (look-in ! 9 (sub ! 1 refl (whole !))))) (from ! (stop !))
+        (init ! 17 refl (EL.lawful E.the-type E′.the-laws 𝓤 H A W tt .typed (r .verdict) _ (of-verdict r _ is) .0)) $
         move ! (1 ∷ 2 ∷ 3 ∷ 4 ∷ []) $ owned ! R (Is R) (LL.makes T.the-type T′.the-plain 𝓤 H A) (r .receive) _ (of-receive r _ is) $ move ! (1 ∷ 0 ∷ []) $
         closes ! tt R (r .receive) (mach (r .receive) ∷ []) b o $
         returns ! (look ! 16 refl) $ forget ! 6 refl $ forget ! 8 refl $ forget ! 10 refl $ forget ! 12 refl $ forget ! 14 refl $ forget ! 16 refl $
-        move ! (16 ∷ 17 ∷ []) $ free1 ! $ move ! (14 ∷ 15 ∷ []) $ free1 ! $ move ! (12 ∷ 13 ∷ []) $ free1 ! $ move ! (10 ∷ 11 ∷ []) $ free1 ! $ move ! (8 ∷ 9 ∷ []) $ free1 ! $ move ! (6 ∷ 7 ∷ []) $ free1 ! $ free0 ! $
+        move ! (16 ∷ 17 ∷ []) $ free1 ! $ move ! (14 ∷ 15 ∷ []) $ free1 ! $ move ! (12 ∷ 13 ∷ []) $ free1 ! $ move ! (10 ∷ 11 ∷ []) $ free1 ! $
+        move ! (8 ∷ 9 ∷ []) $ free1 ! $ move ! (6 ∷ 7 ∷ []) $ free1 ! $ free0 ! $
         keep ! (0 ∷ 1 ∷ 2 ∷ []) $ by ! (exits r e (of-verdict r _ is))))))))))))))
 
 module _ {M : Type 1} (𝓤 : URA M) (H : Heap 𝓤) (A : Atoms 𝓤) (W : Given 𝓤 H A) (at-mem : Memory → SProp 𝓤) (run : Routine → Fun 𝓤) where
   place-walks : (C : Calls 𝓤 H) (Λ : Loops 𝓤 H) → FmC 𝓤 H (W .laws) C → Triple 𝓤 (C #step) (Called 𝓤 H A at-mem run)
       → Walks 𝓤 H A place.ended stayed (WpFn 𝓤 H C Λ code.function) (place.clauses 𝓤 H A at-mem run)
-  place-walks C Λ fm known = walked 𝓤 H A place.ended stayed (place.clauses 𝓤 H A at-mem run) (WpFn 𝓤 H C Λ code.function) (λ κs. (ptr-vals, (uint-vals w32, (bool-vals, tt)))) (λ κs. (mut-tells (named 0) (κs .0) R, (uint-tells w32, (bool-tells, tt))))
-      (λ κs qs bounds a _ are. via 𝓤 _ (fst∗ 𝓤 _ (emp 𝓤)) (walk 𝓤 H A W at-mem run (κs .0) (qs .0) (a .0 .ptr .0) (a .0 .ptr .1) (a .0 .name) (a .0 .now) (a .1 .0) (a .1 .1 .0) (are .1 .0 .1) C Λ fm known))
+  place-walks C Λ fm known =
+      walked 𝓤 H A place.ended stayed (place.clauses 𝓤 H A at-mem run) (WpFn 𝓤 H C Λ code.function)
+      (λ κs. (ptr-vals, (uint-vals w32, (bool-vals, tt)))) (λ κs. (mut-tells (named 0) (κs .0) R, (uint-tells w32, (bool-tells, tt))))
+      (λ κs qs bounds a _ are. via 𝓤 _ (fst∗ 𝓤 _ (emp 𝓤))
+      (walk 𝓤 H A W at-mem run (κs .0) (qs .0) (a .0 .ptr .0) (a .0 .ptr .1) (a .0 .name) (a .0 .now) (a .1 .0) (a .1 .1 .0) (are .1 .0 .1) C Λ fm known))
 
   goes : AllGo 𝓤 H A W 1 (place.signature .params) (place.ended .kept) stayed
-  goes = (goes-ref 𝓤 H A W 1 0 tt (plain (λ _. R)), (goes-none 𝓤 H A W 1 (λ _. u32) yes (λ κs x f. refl), (goes-none 𝓤 H A W 1 (λ _. bool) yes (λ κs x f. refl), tt)))
+  goes = (
+    goes-ref 𝓤 H A W 1 0 tt (plain (λ _. R)),
+    (goes-none 𝓤 H A W 1 (λ _. u32) yes (λ κs x f. refl), (goes-none 𝓤 H A W 1 (λ _. bool) yes (λ κs x f. refl), tt)),
+  )
 
-place-meets : {M : Type 1} (𝓤 : URA M) (H : Heap 𝓤) (A : Atoms 𝓤) (W : Given 𝓤 H A) (at-mem : Memory → SProp 𝓤) (run : Routine → Fun 𝓤) (𝓣 : Tables 𝓤 H) → Triple 𝓤 (𝓣 .C #step) (Called 𝓤 H A at-mem run)
+place-meets : {M : Type 1} (𝓤 : URA M) (H : Heap 𝓤) (A : Atoms 𝓤) (W : Given 𝓤 H A) (at-mem : Memory → SProp 𝓤) (run : Routine → Fun 𝓤)
+    (𝓣 : Tables 𝓤 H) → Triple 𝓤 (𝓣 .C #step) (Called 𝓤 H A at-mem run)
     → Meets 𝓤 H A place.signature (WpFn 𝓤 H (𝓣 .C) (𝓣 .Λ) code.function) (place.spec 𝓤 H A at-mem run)
-place-meets 𝓤 H A W at-mem run 𝓣 known = walk-meets 𝓤 H A place.ended stayed W (goes 𝓤 H A W at-mem run) (place.clauses 𝓤 H A at-mem run) (WpFn 𝓤 H (𝓣 .C) (𝓣 .Λ) code.function) (WpFn-mono 𝓤 H (W .laws) 𝓣 code.function)
+place-meets 𝓤 H A W at-mem run 𝓣 known =
+    walk-meets 𝓤 H A place.ended stayed W (goes 𝓤 H A W at-mem run) (place.clauses 𝓤 H A at-mem run) (WpFn 𝓤 H (𝓣 .C) (𝓣 .Λ) code.function)
+    (WpFn-mono 𝓤 H (W .laws) 𝓣 code.function)
     (place-walks 𝓤 H A W at-mem run (𝓣 .C) (𝓣 .Λ) (fmOf 𝓤 H (W .laws) 𝓣) known)
 
 pub step-in-place-spec : {M : Type 1} → stated.statement M
