@@ -13,7 +13,7 @@ use Rattle.wire_read.specs.Tests.{if_then_else_}
 use Rattle.wire_read.proofs.Tests.{both, by-test}
 use Rattle.sequence_table.specs.declared.table.Key.{Key}
 use Rattle.sequence_table.specs.declared.table.Entry.{Entry}
-use Rattle.sequence_table.specs.Table.{Table, rooms, words, word, mark, holds, isFree, firstPlace, find, free, putKey, emptied, entryOf, entryWords, putWords, entryAt, putEntry}
+use Rattle.sequence_table.specs.Table.{Table, rooms, words, word, markIn, destinationIn, spiIn, holds, isFree, firstPlace, find, free, putKey, emptied, entryOf, entryWords, putWords, entryAt, putEntry}
 
 -- ---- the first place that passes a test
 
@@ -95,11 +95,11 @@ same-parts a b d p s =
 
 -- no room holds two keys, and a free one holds none
 holds-parts : (t : Table) (key : Key) (i : ℕ) → holds t key i ≡ true →
-    (word t i 2 ≡ key .spi) × (mark t i ≡ key .protocol + 1) × (word t i 1 ≡ key .destination)
+    (spiIn t i ≡ key .spi) × (markIn t i ≡ key .protocol + 1) × (destinationIn t i ≡ key .destination)
 unfolding holds
 holds-parts t key i h =
-    let spi = both _ (eqb (mark t i) (key .protocol + 1) && eqb (word t i 1) (key .destination)) h in
-    let rest = both _ (eqb (word t i 1) (key .destination)) (spi .1) in
+    let spi = both _ (eqb (markIn t i) (key .protocol + 1) && eqb (destinationIn t i) (key .destination)) h in
+    let rest = both _ (eqb (destinationIn t i) (key .destination)) (spi .1) in
     (eqb-true _ _ (spi .0), eqb-true _ _ (rest .0), eqb-true _ _ (rest .1))
 
 pub holds-one : (t : Table) (i : ℕ) (a b : Key) → holds t a i ≡ true → holds t b i ≡ true → a ≡ b
@@ -111,9 +111,9 @@ holds-one t i a b p q =
 pub free-holds : (t : Table) (i : ℕ) (key : Key) → isFree t i ≡ true → holds t key i ≡ false
 unfolding holds isFree
 free-holds t i key h =
-    let z : mark t i ≡ 0 = eqb-true (mark t i) 0 h in
-    let d : mark t i ≡ key .protocol + 1 → ⊥ = omega arith in
-    rw (ne-eqb (mark t i) (key .protocol + 1) d, and-false (eqb (word t i 2) (key .spi)))
+    let z : markIn t i ≡ 0 = eqb-true (markIn t i) 0 h in
+    let d : markIn t i ≡ key .protocol + 1 → ⊥ = omega arith in
+    rw (ne-eqb (markIn t i) (key .protocol + 1) d, and-false (eqb (spiIn t i) (key .spi)))
 
 -- ---- words written from a place of a room on
 
@@ -248,21 +248,21 @@ module _ (t : Table) (i : ℕ) (a : Key) where
     key-read : (j : ℕ) → j < 3 → word (putKey t i a) i j ≡ getD keyWords j 0
     key-read j h = let e : j ≡ 0 + j = omega arith in rw key-run (ap (word (putWords t i 0 keyWords) i) e ∙ run-read keyWords t i 0 j (omega arith) h)
 
-    mark-read : mark (putKey t i a) i ≡ a .protocol + 1
+    mark-read : markIn (putKey t i a) i ≡ a .protocol + 1
     mark-read = ap (λ (k : ℕ). getD (putKey t i a) k 0) (sym (add-zero (i * words))) ∙ key-read 0 (omega arith)
 
     pub holds-put : holds (putKey t i a) a i ≡ true
     unfolding holds
     holds-put =
         rw (
-          eq-eqb (word (putKey t i a) i 2) (a .spi) (key-read 2 (omega arith)),
-          eq-eqb (mark (putKey t i a) i) (a .protocol + 1) mark-read,
-          eq-eqb (word (putKey t i a) i 1) (a .destination) (key-read 1 (omega arith)),
+          eq-eqb (spiIn (putKey t i a) i) (a .spi) (key-read 2 (omega arith)),
+          eq-eqb (markIn (putKey t i a) i) (a .protocol + 1) mark-read,
+          eq-eqb (destinationIn (putKey t i a) i) (a .destination) (key-read 1 (omega arith)),
         )
 
     pub isFree-put : isFree (putKey t i a) i ≡ false
     unfolding isFree
-    isFree-put = ne-eqb (mark (putKey t i a) i) 0 (omega (arith, mark-read))
+    isFree-put = ne-eqb (markIn (putKey t i a) i) 0 (omega (arith, mark-read))
 
 module _ (t : Table) (i : ℕ) where
   marked : (k : ℕ) → (k ≡ i * words → ⊥) → getD (emptied t i) k 0 ≡ getD t k 0

@@ -14,7 +14,7 @@ use Rattle.sequence_record.specs.declared.Judged.{Judged}
 use Rattle.sequence_packet.specs.Packets.{known, read}
 use Rattle.sequence_packet.specs.declared.Packet.{Packet}
 use Rattle.sequence_packet.specs.declared.Packet.the-variants as Packets
-use Rattle.sequence_table.specs.Table.{Table, rooms, words, word, mark, holds, isFree, firstPlace, find, free, putKey, emptied, newEntry, withReceive, withCounter, entryAt, putEntry, added, removed, judgedAt, packetRead, packet, handedOut, nextToSend, loss}
+use Rattle.sequence_table.specs.Table.{Table, rooms, words, markIn, destinationIn, spiIn, holds, isFree, firstPlace, find, free, putKey, emptied, newEntry, withReceive, withCounter, entryAt, putEntry, added, removed, judgedAt, packetRead, packet, handedOut, nextToSend, loss}
 use Rattle.sequence_record.specs.declared.Verdict.the-variants as Verdicts
 use Rattle.sequence_record.specs.declared.LossLine.{LossLine}
 use Rattle.sequence_table.specs.declared.table.Key.{Key}
@@ -24,13 +24,13 @@ use Rattle.sequence_table.specs.declared.table.Sending.the-variants as S
 use Rattle.sequence_table.specs.declared.table.Counted.the-variants as Counts
 
 module _ (t : Table) (key : Key) (i : ℕ) where
-  pub holds-spi : word t i 2 ≡ key .spi → (eqb (mark t i) (key .protocol + 1) && eqb (word t i 1) (key .destination)) ≡ holds t key i
+  pub holds-spi : spiIn t i ≡ key .spi → (eqb (markIn t i) (key .protocol + 1) && eqb (destinationIn t i) (key .destination)) ≡ holds t key i
   unfolding holds
-  holds-spi e = rw (eq-eqb (word t i 2) (key .spi) e)
+  holds-spi e = rw (eq-eqb (spiIn t i) (key .spi) e)
 
-  pub holds-not : (word t i 2 ≡ key .spi → ⊥) → false ≡ holds t key i
+  pub holds-not : (spiIn t i ≡ key .spi → ⊥) → false ≡ holds t key i
   unfolding holds
-  holds-not e = rw (ne-eqb (word t i 2) (key .spi) e)
+  holds-not e = rw (ne-eqb (spiIn t i) (key .spi) e)
 
 first-step : (test : ℕ → Bool) (i : ℕ) → i < rooms → firstPlace test (rooms - i) i ≡ (if test i then i else firstPlace test (rooms - (i + 1)) (i + 1))
 unfolding firstPlace
@@ -50,13 +50,13 @@ module _ (test : ℕ → Bool) (i x : ℕ) (so-far : firstPlace test (rooms - i)
     first-on h = sym (first-step test i more ∙ rw (← eb, h)) ∙ so-far
 
 module _ (t : Table) (i : ℕ) (so-far : firstPlace (isFree t) (rooms - i) i ≡ free t) (more : i < rooms) where
-  pub free-here : mark t i ≡ 0 → i ≡ free t
+  pub free-here : markIn t i ≡ 0 → i ≡ free t
   unfolding isFree
-  free-here h = first-here (isFree t) i (free t) so-far more true (sym (eq-eqb (mark t i) 0 h)) refl
+  free-here h = first-here (isFree t) i (free t) so-far more true (sym (eq-eqb (markIn t i) 0 h)) refl
 
-  pub free-on : (mark t i ≡ 0 → ⊥) → firstPlace (isFree t) (rooms - (i + 1)) (i + 1) ≡ free t
+  pub free-on : (markIn t i ≡ 0 → ⊥) → firstPlace (isFree t) (rooms - (i + 1)) (i + 1) ≡ free t
   unfolding isFree
-  free-on h = first-on (isFree t) i (free t) so-far more false (sym (ne-eqb (mark t i) 0 h)) refl
+  free-on h = first-on (isFree t) i (free t) so-far more false (sym (ne-eqb (markIn t i) 0 h)) refl
 
 -- ---- calls
 

@@ -39,19 +39,25 @@ words = 6
 abbrev pub empty : Table
 empty = replicate (rooms * words) 0
 
--- the word at a place of a room; the first is the mark
+-- the word at a place of a room, and the first three by name
 abbrev pub word : (t : Table) (room place : ℕ) → ℕ
 word t room place = getD t (room * words + place) 0
 
-abbrev pub mark : (t : Table) (room : ℕ) → ℕ
-mark t room = getD t (room * words) 0
+abbrev pub markIn : (t : Table) (room : ℕ) → ℕ
+markIn t room = getD t (room * words) 0
+
+abbrev pub destinationIn : (t : Table) (room : ℕ) → ℕ
+destinationIn t room = word t room 1
+
+abbrev pub spiIn : (t : Table) (room : ℕ) → ℕ
+spiIn t room = word t room 2
 
 -- a room holds a life of the key
 unfoldable pub holds : (t : Table) (key : Key) (room : ℕ) → Bool
-holds t key room = eqb (word t room 2) (key .spi) && (eqb (mark t room) (key .protocol + 1) && eqb (word t room 1) (key .destination))
+holds t key room = eqb (spiIn t room) (key .spi) && (eqb (markIn t room) (key .protocol + 1) && eqb (destinationIn t room) (key .destination))
 
 unfoldable pub isFree : (t : Table) (room : ℕ) → Bool
-isFree t room = eqb (mark t room) 0
+isFree t room = eqb (markIn t room) 0
 
 -- the first place from i on that passes the test, so many are looked at; the one behind them where none passes
 unfoldable pub firstPlace : (test : ℕ → Bool) (left i : ℕ) → ℕ
