@@ -1,4 +1,4 @@
-//! Links what `rt staticlib` wrote of `exports` and `exportsquick`, and the peer in C.
+//! Links what `rt staticlib` wrote of `exports` and `exports_quick`, and the peer in C.
 
 use std::env;
 use std::path::Path;
@@ -8,7 +8,7 @@ fn main() {
     let here = env::var("CARGO_MANIFEST_DIR").expect("cargo names the package's folder");
     let folder = Path::new(&here).join("../target/staticlib");
     println!("cargo:rustc-link-search=native={}", folder.display());
-    for name in ["exports", "exportsquick"] {
+    for name in ["exports", "exports_quick"] {
         println!("cargo:rustc-link-lib=static={name}");
         println!("cargo:rerun-if-changed={}", folder.join(format!("lib{name}.a")).display());
     }
