@@ -1,6 +1,6 @@
 //! What the house keeps, checked from the sources: every public function has a contract, a row in docs/CONTRACTS.md, a must-fail edit and a
 //! theorem that it has one answer; that page's column of edits and the diagram in docs/ARCHITECTURE.md are as they are made from the
-//! sources; no axiom is declared; the pages name only files and crates that exist, and docs/RULES.md only names of the sources; each
+//! sources; no axiom is declared; the pages name only files and crates that exist, and docs/RULES.md only names that the sources declare; each
 //! sample answers as its page says, and README.md shows what it does. `house ROOT BENCH VERDICT`; the last line is `N passed, M failed`.
 //! `house --write ROOT` makes the column and the diagram anew (tools/pages).
 
@@ -8,14 +8,13 @@ mod diagram;
 mod edits;
 mod sources;
 
-use std::collections::HashSet;
 use std::fs;
 use std::io::Write;
 use std::path::{Path, PathBuf};
 use std::process::{Command, ExitCode, Stdio};
 
 use diagram::families;
-use sources::{below, public_functions, PublicFunction};
+use sources::{below, declared_names, public_functions, PublicFunction};
 
 const CONTRACTS: &str = "docs/CONTRACTS.md";
 const ARCHITECTURE: &str = "docs/ARCHITECTURE.md";
@@ -197,23 +196,17 @@ fn named_files(root: &Path, tally: &mut Tally) {
     }
 }
 
-/// What the last column of docs/RULES.md has between backticks, and is no file, is a word of the sources. The notation is explained there
-/// in a table of its own, which is passed over.
+/// What the last column of docs/RULES.md has between backticks, and is no file, begins with a name that the sources declare. The table of
+/// notation, whose rows quote no sentence, is passed over.
 fn named_definitions(root: &Path, tally: &mut Tally) {
-    let is_part = |c: char| c.is_alphanumeric() || "_-'".contains(c);
-    let mut words = HashSet::new();
-    for ending in ["antt", "rt"] {
-        for path in below(&root.join("crates"), ending) {
-            words.extend(text(&path).split(|c| !is_part(c)).map(String::from));
-        }
-    }
+    let declared = declared_names(&root.join("crates"));
     let page = text(&root.join(RULES));
     let rows = page.lines().filter(|line| line.starts_with("| \"") || line.starts_with("| demand"));
     let cells = rows.filter_map(|row| row.trim_end_matches([' ', '|']).rsplit(" | ").next());
     let mut found = 0;
     for named in cells.flat_map(|cell| cell.split('`').skip(1).step_by(2)).filter(|named| !named.contains('/')) {
-        let name = named.split(|c| !is_part(c)).next().unwrap_or("");
-        tally.fact(words.contains(name), || format!("{RULES} names {named}, which the sources do not have"));
+        let name = named.split(' ').next().unwrap_or("");
+        tally.fact(declared.contains(name), || format!("{RULES} names {named}, which no source declares"));
         found += 1;
     }
     tally.fact(found > 0, || format!("{RULES} names no definition"));

@@ -1,5 +1,6 @@
-//! Finding public functions in the Rattle sources, as text.
+//! Finding public functions and declared names in the Rattle sources, as text.
 
+use std::collections::HashSet;
 use std::fs;
 use std::path::{Path, PathBuf};
 
@@ -45,4 +46,42 @@ pub fn public_functions(crates: &Path) -> Vec<PublicFunction> {
         }
     }
     found
+}
+
+/// Every name that the sources below a folder of crates declare: definitions, theorems, types and their parts, functions, constants.
+pub fn declared_names(crates: &Path) -> HashSet<String> {
+    let mut found = HashSet::new();
+    for path in below(crates, "antt") {
+        let text = fs::read_to_string(&path).unwrap_or_default();
+        found.extend(text.lines().filter_map(declared_in_proofs).map(String::from));
+    }
+    for path in below(crates, "rt") {
+        let text = fs::read_to_string(&path).unwrap_or_default();
+        for word in ["fn ", "struct ", "enum ", "const "] {
+            let names = text.split(word).skip(1).filter_map(|part| part.split(['(', '<', ' ', ':', ';']).next());
+            found.extend(names.map(String::from));
+        }
+    }
+    found
+}
+
+/// The name that a line of definitions or proofs declares: `pub NAME : ..`, `data NAME ..`, `record NAME ..`.
+fn declared_in_proofs(line: &str) -> Option<&str> {
+    let mut words = line.split_whitespace().skip_while(|word| ["abbrev", "unfoldable", "pub"].contains(word));
+    match words.next()? {
+        "data" | "record" => words.next(),
+        name => (words.next() == Some(":")).then_some(name),
+    }
+}
+
+#[cfg(test)]
+mod tests {
+    use super::*;
+
+    #[test]
+    fn a_line_declares_what_stands_before_its_colon() {
+        assert_eq!(declared_in_proofs("abbrev pub quickId : (protocol : ℕ) → ℕ"), Some("quickId"));
+        assert_eq!(declared_in_proofs("  pub record FullSize (p : Party) : Type 0 where"), Some("FullSize"));
+        assert_eq!(declared_in_proofs("quickId protocol = 20"), None);
+    }
 }
