@@ -6,6 +6,7 @@ use mathlib.Core.List.{List, [], _∷_, _++_}
 use mathlib.Core.Bool.{Bool, true, false, not, _||_, _&&_}
 use lib.ListN.{length, getD}
 use lib.Dec.{ltb, leb, eqb}
+use Rattle.wire_read.specs.Wire.{Bytes}
 use Rattle.wire_write.specs.Put.{bytesOf}
 use Rattle.wire_read.specs.Tests.{if_then_else_}
 use Rattle.wire_read.specs.Answer.{Answer, done, refused}
@@ -24,7 +25,7 @@ use Rattle.sequence_table.specs.Table.{Table, empty, added, removed, packet, ne
 pub data Call : Type 0 where
   adds : (key : Key) → Call
   removes : (key : Key) → Call
-  shows : (destination protocol : ℕ) (integrity : Bool) (s : List ℕ) → Call
+  shows : (destination protocol : ℕ) (integrity : Bool) (s : Bytes) → Call
   sends : (key : Key) → Call
   asks : (key : Key) → Call
 
@@ -227,12 +228,12 @@ isAdding (sends key) = false
 isAdding (asks key) = false
 
 -- packets of the key, each with what is said of its integrity, and the numbers that they carry
-pub data Carries (key : Key) : List (Bool × List ℕ) → List (Bool × ℕ) → Type 0 where
+pub data Carries (key : Key) : List (Bool × Bytes) → List (Bool × ℕ) → Type 0 where
   no-more : Carries key [] []
-  next : {integrity : Bool} {s : List ℕ} {number : ℕ} {packets : List (Bool × List ℕ)} {numbers : List (Bool × ℕ)} →
+  next : {integrity : Bool} {s : Bytes} {number : ℕ} {packets : List (Bool × Bytes)} {numbers : List (Bool × ℕ)} →
       read (key .protocol) s ≡ Read (key .spi) number → Carries key packets numbers → Carries key ((integrity, s) ∷ packets) ((integrity, number) ∷ numbers)
 
-unfoldable pub tableVerdicts : (t : Table) (key : Key) (packets : List (Bool × List ℕ)) → List Verdict
+unfoldable pub tableVerdicts : (t : Table) (key : Key) (packets : List (Bool × Bytes)) → List Verdict
 tableVerdicts t key [] = []
 tableVerdicts t key (p ∷ packets) =
     packet t (key .destination) (key .protocol) (p .0) (p .1) .0 ∷ tableVerdicts (packet t (key .destination) (key .protocol) (p .0) (p .1) .1) key packets

@@ -5,6 +5,7 @@ use mathlib.Core.List.{List, [], _∷_}
 use mathlib.Core.Bool.{Bool, not, _&&_}
 use lib.ListN.{getD, set, replicate}
 use lib.Dec.{ltb, leb, eqb}
+use Rattle.wire_read.specs.Wire.{Bytes}
 use Rattle.wire_read.specs.Tests.{if_then_else_}
 use Rattle.wire_read.specs.Answer.{Answer, done, refused}
 use Rattle.sequence_record.specs.declared.Receive.{Receive}
@@ -140,7 +141,7 @@ packetRead t destination protocol integrity (Packets.Read spi number) =
         else judgedAt t room (judged (entryAt t room .receive) number integrity)
 
 -- "A packet's protocol not 2 or 3: 10. AH .. ESP .. else 16. Then entry 11." Then the step.
-unfoldable pub packet : (t : Table) (destination protocol : ℕ) (integrity : Bool) (s : List ℕ) → Verdict × Table
+unfoldable pub packet : (t : Table) (destination protocol : ℕ) (integrity : Bool) (s : Bytes) → Verdict × Table
 packet t destination protocol integrity s = packetRead t destination protocol integrity (read protocol s)
 
 -- "Sending counts from 1; after 4,294,967,295: 8198"
