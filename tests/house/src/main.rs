@@ -149,14 +149,11 @@ fn made(root: &Path, tally: &mut Tally) {
     tally.fact(drawn, || format!("{ARCHITECTURE} has no diagram"));
 }
 
+/// Writes the pages that are not as they are made; whether that could be done.
 fn write_pages(root: &Path) -> bool {
-    made_pages(root).iter().all(|(page, _, made)| match fs::write(root.join(page), made) {
-        Ok(()) => true,
-        Err(why) => {
-            eprintln!("house: cannot write {page}: {why}");
-            false
-        }
-    })
+    let old = made_pages(root).into_iter().filter(|(_, stands, made)| stands != made);
+    let failed = old.filter_map(|(page, _, made)| Some((page, fs::write(root.join(page), made).err()?)));
+    failed.inspect(|(page, why)| eprintln!("house: cannot write {page}: {why}")).count() == 0
 }
 
 /// Every crate has a row in docs/ARCHITECTURE.md that says what it is for.
