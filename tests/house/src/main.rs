@@ -1,8 +1,8 @@
-//! What the house keeps, checked from the sources: every public function has a contract, a row in docs/CONTRACTS.md, a must-fail edit and a
-//! theorem that it has one answer; that page's column of edits and the diagram in docs/ARCHITECTURE.md are as they are made from the
-//! sources; no axiom is declared; the pages name only files and crates that exist, and docs/RULES.md only names that the sources declare; each
-//! sample answers as its page says, and README.md shows what it does. `house ROOT BENCH VERDICT`; the last line is `N passed, M failed`.
-//! `house --write ROOT` makes the column and the diagram anew (tools/pages).
+//! What the house keeps, checked from the sources. Every public function has a contract, a row in docs/CONTRACTS.md, a must-fail edit and
+//! a theorem that it has one answer, and every row is of something that its crate declares. That page's column of edits and the diagram in
+//! docs/ARCHITECTURE.md are as they are made from the sources. No axiom is declared. The pages name only files that exist, and
+//! docs/RULES.md only names that the sources declare. Each sample answers as its page says, and README.md shows what it does.
+//! `house ROOT BENCH VERDICT`; the last line is `N passed, M failed`. `house --write ROOT` makes column and diagram anew (tools/pages).
 
 mod diagram;
 mod edits;
@@ -64,6 +64,7 @@ fn main() -> ExitCode {
     let root = Path::new(root);
     let mut tally = Tally::default();
     contracts(root, &mut tally);
+    rows_declared(root, &mut tally);
     edits_named(root, &mut tally);
     made(root, &mut tally);
     crates(root, &mut tally);
@@ -117,6 +118,16 @@ fn one_answer(root: &Path) -> String {
 fn excepted(page: &str, krate: &str, name: &str) -> bool {
     let part = page.split("\n## Exceptions\n").nth(1).and_then(|rest| rest.split("\n## ").next());
     part.is_some_and(|part| part.contains(&format!("`{krate}::{name}`")))
+}
+
+/// A row below a crate's heading is of something that this crate declares.
+fn rows_declared(root: &Path, tally: &mut Tally) {
+    for (krate, name) in edits::rows(&text(&root.join(CONTRACTS))) {
+        let declared = declared_names(&root.join("crates").join(&krate));
+        tally.fact(declared.contains(&name), || {
+            format!("{CONTRACTS} has a row for {name}, which {krate} does not declare")
+        });
+    }
 }
 
 fn edits_named(root: &Path, tally: &mut Tally) {

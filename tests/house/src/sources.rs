@@ -48,14 +48,14 @@ pub fn public_functions(crates: &Path) -> Vec<PublicFunction> {
     found
 }
 
-/// Every name that the sources below a folder of crates declare: definitions, theorems, types and their parts, functions, constants.
-pub fn declared_names(crates: &Path) -> HashSet<String> {
+/// Every name that the sources below a folder declare: definitions, theorems, types and their parts, functions, constants.
+pub fn declared_names(folder: &Path) -> HashSet<String> {
     let mut found = HashSet::new();
-    for path in below(crates, "antt") {
+    for path in below(folder, "antt") {
         let text = fs::read_to_string(&path).unwrap_or_default();
         found.extend(text.lines().filter_map(declared_in_proofs).map(String::from));
     }
-    for path in below(crates, "rt") {
+    for path in below(folder, "rt") {
         let text = fs::read_to_string(&path).unwrap_or_default();
         for word in ["fn ", "struct ", "enum ", "const "] {
             let names = text.split(word).skip(1).filter_map(|part| part.split(['(', '<', ' ', ':', ';']).next());
