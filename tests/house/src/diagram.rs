@@ -96,8 +96,8 @@ mod tests {
 
     #[test]
     fn an_arrow_that_follows_from_others_is_left_out() {
-        let page = "before\n```mermaid\nold\n```\nafter\n";
-        let made = "before\n```mermaid\nflowchart TD\n  subgraph family0 [\"wire\"]\n    read\n    put\n  end\n  subgraph family1 [\"programs\"]\n    bench\n  end\n  put --> read\n  bench --> put\n```\nafter\n";
-        assert_eq!(written(page, &families(CRATES)), made);
+        let boxes = "  subgraph family0 [\"wire\"]\n    read\n    put\n  end\n  subgraph family1 [\"programs\"]\n    bench\n  end\n";
+        let made = format!("before\n```mermaid\nflowchart TD\n{boxes}  put --> read\n  bench --> put\n```\nafter\n");
+        assert_eq!(written("before\n```mermaid\nold\n```\nafter\n", &families(CRATES)), made);
     }
 }

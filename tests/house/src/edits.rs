@@ -103,11 +103,15 @@ mod tests {
 
     #[test]
     fn the_column_is_made_below_the_crates_own_heading() {
-        let page = "## wire_read\n\n| `byte(s, at)` | the byte | old |\n| `front(s, n)` | so many | |\n\n## der\n\n| `byte(s)` | x | own |\n";
+        let page = |of_byte: &str| {
+            let of_wire =
+                format!("## wire_read\n\n| `byte(s, at)` | the byte | {of_byte} |\n| `front(s, n)` | so many | |\n");
+            format!("{of_wire}\n## der\n\n| `byte(s)` | x | own |\n")
+        };
         let edits = [edit("byte", "# byte: 1 past the end"), edit("late", "# byte: one byte late")];
-        let made = "## wire_read\n\n| `byte(s, at)` | the byte | `byte`: 1 past the end; `late`: one byte late |\n| `front(s, n)` | so many | |\n\n## der\n\n| `byte(s)` | x | own |\n";
-        assert_eq!(written(page, &edits), made);
-        assert_eq!(written(made, &edits), made);
-        assert_eq!(rows(page)[2], ("der".into(), "byte".into()));
+        let made = page("`byte`: 1 past the end; `late`: one byte late");
+        assert_eq!(written(&page("old"), &edits), made);
+        assert_eq!(written(&made, &edits), made);
+        assert_eq!(rows(&made)[2], ("der".into(), "byte".into()));
     }
 }
