@@ -1,7 +1,7 @@
 //! What the house keeps, checked from the sources. Every public function has a contract, a row in docs/CONTRACTS.md, a must-fail edit and
 //! a theorem that it has one answer, and every row is of something that its crate declares. That page's column of edits and the diagram in
-//! docs/ARCHITECTURE.md are as they are made from the sources. No axiom is declared. The pages name only files that exist, and
-//! docs/RULES.md only names that the sources declare. Each sample answers as its page says, and README.md shows what it does.
+//! docs/ARCHITECTURE.md are as they are made from the sources. No axiom is declared. The pages name only files that exist, and where
+//! they lay out definitions only names that the sources declare. Each sample answers as its page says, and README.md shows what it does.
 //! `house ROOT BENCH VERDICT`; the last line is `N passed, M failed`. `house --write ROOT` makes column and diagram anew (tools/pages).
 
 mod diagram;
@@ -204,20 +204,24 @@ fn named_files(root: &Path, tally: &mut Tally) {
     }
 }
 
-/// What the last column of docs/RULES.md has between backticks, and is no file, begins with a name that the sources declare. The table of
-/// notation, whose rows quote no sentence, is passed over.
+/// What stands between backticks in the last column of docs/RULES.md, and in the table of docs/ARCHITECTURE.md on what requests will touch,
+/// and is no file, begins with a name that the sources declare. The table of notation, whose rows quote no sentence, is passed over.
 fn named_definitions(root: &Path, tally: &mut Tally) {
     let declared = declared_names(&root.join("crates"));
-    let page = text(&root.join(RULES));
-    let rows = page.lines().filter(|line| line.starts_with("| \"") || line.starts_with("| demand"));
-    let cells = rows.filter_map(|row| row.trim_end_matches([' ', '|']).rsplit(" | ").next());
-    let mut found = 0;
-    for named in cells.flat_map(|cell| cell.split('`').skip(1).step_by(2)).filter(|named| !named.contains('/')) {
-        let name = named.split(' ').next().unwrap_or("");
-        tally.fact(declared.contains(name), || format!("{RULES} names {named}, which no source declares"));
-        found += 1;
+    let rules = text(&root.join(RULES));
+    let sentences = rules.lines().filter(|line| line.starts_with("| \"") || line.starts_with("| demand"));
+    let definitions = sentences.filter_map(|row| row.trim_end_matches([' ', '|']).rsplit(" | ").next());
+    let architecture = text(&root.join(ARCHITECTURE));
+    let requests = architecture.split("\n| request |").nth(1).and_then(|rest| rest.split("\n\n").next());
+    for (page, texts) in [(RULES, definitions.collect()), (ARCHITECTURE, Vec::from_iter(requests))] {
+        let named = texts.iter().flat_map(|text| text.split('`').skip(1).step_by(2));
+        let named: Vec<&str> = named.filter(|named| !named.contains('/')).collect();
+        tally.fact(!named.is_empty(), || format!("{page} names no definition"));
+        for named in named {
+            let name = named.split(' ').next().unwrap_or("");
+            tally.fact(declared.contains(name), || format!("{page} names {named}, which no source declares"));
+        }
     }
-    tally.fact(found > 0, || format!("{RULES} names no definition"));
 }
 
 /// samples/X.lines is a script for bench, and samples/X.answers what it answers.
