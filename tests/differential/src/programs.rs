@@ -8,7 +8,7 @@ use std::thread;
 use std::time::{Duration, Instant};
 
 /// All runs together get so long; a program that has not ended by then never will.
-const PATIENCE: Duration = Duration::from_secs(300);
+const PATIENCE: Duration = Duration::from_secs(1500);
 /// More than all answers together; a program that never stops writing is cut off here.
 const MOST_OUTPUT: u64 = 1 << 28;
 
