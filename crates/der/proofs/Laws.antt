@@ -61,4 +61,5 @@ module _ (e : List ℕ → ℕ) where
     filled-step some =
         list-enough (length s) (suc (length s)) s (omega arith) (omega arith)
         ∙ list-next (length s) s some
-        ∙ ap (λ (b : Bool). not (eqb (e s) 0) && b) (list-enough (length s) (length (drop (e s) s)) (drop (e s) s) (simp length-drop (omega arith)) (omega arith))
+        ∙ ap (λ (b : Bool). not (eqb (e s) 0) && b)
+        (list-enough (length s) (length (drop (e s) s)) (drop (e s) s) (simp length-drop (omega arith)) (omega arith))

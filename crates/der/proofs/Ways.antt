@@ -59,7 +59,8 @@ module _ (s : List ℕ) (h b : ℕ) (t : Bool) (eh : h ≡ headSize s) (eb : b �
 -- ---- element
 
 -- one level, with the code's own levels - 1
-element-step : (levels : ℕ) (s : List ℕ) → (levels ≡ 0 → ⊥) → element levels s ≡ (if constructed s && not (filled (element (levels - 1)) (contents s)) then 0 else size s)
+element-step : (levels : ℕ) (s : List ℕ) → (levels ≡ 0 → ⊥) →
+    element levels s ≡ (if constructed s && not (filled (element (levels - 1)) (contents s)) then 0 else size s)
 unfolding element
 element-step zero s h = absurd (h refl)
 element-step (suc levels) s h = let i : suc levels - 1 ≡ levels = omega arith in rw i
@@ -81,7 +82,8 @@ module _ (levels : ℕ) (s : List ℕ) where
       pub element-plain : b ≡ false → n ≡ element levels s
       element-plain z = rw (element-step levels s may, ← is, ← con, z)
 
-      module _ (yes : b ≡ true) (h z : ℕ) (rest body : List ℕ) (r : Bool) (eh : h ≡ headSize s) (ez : z ≡ bodySize s) (er : rest ≡ drop h s) (eb : body ≡ take z rest) (ef : r ≡ filled (element (levels - 1)) body) where
+      module _ (yes : b ≡ true) (h z : ℕ) (rest body : List ℕ) (r : Bool) (eh : h ≡ headSize s) (ez : z ≡ bodySize s) (er : rest ≡ drop h s)
+          (eb : body ≡ take z rest) (ef : r ≡ filled (element (levels - 1)) body) where
         inside : contents s ≡ body
         unfolding contents
         inside = cc

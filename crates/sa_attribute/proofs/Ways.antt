@@ -50,7 +50,10 @@ module _ (a : List ℕ) (b : Bool) (eb : b ≡ sentFixed a) where
 -- ---- find
 
 find-step : (left t : ℕ) (s : List ℕ) → (left ≡ 0 → ⊥) →
-    find left t s ≡ (if ltb (length s) 4 then [] else if eqb (attributeType s) t then take (attributeSize s) s else find (left - 1) t (drop (attributeSize s) s))
+    find left t s
+    ≡ (if ltb (length s) 4 then []
+    else if eqb (attributeType s) t then take (attributeSize s) s
+    else find (left - 1) t (drop (attributeSize s) s))
 unfolding find afterAttribute
 find-step zero t s h = absurd (h refl)
 find-step (suc left) t s h = let i : suc left - 1 ≡ left = omega arith in rw i
@@ -73,7 +76,8 @@ module _ (left t at : ℕ) (s goal : List ℕ) (so-far : find left t (drop at s)
     pub search-end : (here : List ℕ) → here ≡ drop at s → length here < 4 → empty ≡ goal
     search-end here eh h = e ∙ find-none left t (drop at s) (rw (← eh) h) ∙ so-far
 
-  module _ (may : left ≡ 0 → ⊥) (here : List ℕ) (eh : here ≡ drop at s) (long : 4 ≤ length here) (n u : ℕ) (en : n ≡ attributeSize here) (eu : u ≡ attributeType here) where
+  module _ (may : left ≡ 0 → ⊥) (here : List ℕ) (eh : here ≡ drop at s) (long : 4 ≤ length here) (n u : ℕ) (en : n ≡ attributeSize here)
+      (eu : u ≡ attributeType here) where
     step : goal ≡ (if eqb u t then take n here else find (left - 1) t (drop n here))
     step = sym so-far ∙ find-step left t (drop at s) may ∙ rw (← eh, le-ltb (length here) 4 long, ← en, ← eu)
 

@@ -31,7 +31,7 @@ attributeSize s = if sentFixed s then 4 else 4 + valueOrLength s
 unfoldable pub afterAttribute : (s : Bytes) → Bytes
 afterAttribute s = drop (attributeSize s) s
 
--- the attribute of type t among the first k of s, no bytes where there is none
+-- the attribute of this type among the first k of s, no bytes where there is none
 unfoldable pub find : (k attributetype : ℕ) (s : Bytes) → Bytes
 find zero attributetype s = []
 find (suc k) attributetype s =
@@ -39,7 +39,7 @@ find (suc k) attributetype s =
     else if eqb (attributeType s) attributetype then take (attributeSize s) s
     else find k attributetype (afterAttribute s)
 
--- the attribute of type t in a transform's attributes
+-- the attribute of this type in a transform's attributes
 unfoldable pub attribute : (attributetype : ℕ) (s : Bytes) → Bytes
 attribute attributetype s = find 16 attributetype s
 

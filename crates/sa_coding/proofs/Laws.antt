@@ -75,8 +75,9 @@ module _ (exchange : ℕ) (s : List ℕ) (o : Sound exchange s) where
   short-duration h =
       by-test (sentFixed s) (size-fixed s)
       (λ e.
-      let wrong : (isDuration exchange (attributeType s) && not (sentFixed s) && not (leb 1 (numberAt 2 s 2) && leb (numberAt 2 s 2) 4)) ≡ false = o .duration in
-      size-variable s e (leb-true _ _ (both (leb 1 (numberAt 2 s 2)) (leb (numberAt 2 s 2) 4) (not-false _ (rw (h, e) at wrong)) .1)))
+      let n : ℕ = numberAt 2 s 2 in
+      let wrong : (isDuration exchange (attributeType s) && not (sentFixed s) && not (leb 1 n && leb n 4)) ≡ false = o .duration in
+      size-variable s e (leb-true _ _ (both (leb 1 n) (leb n 4) (not-false _ (rw (h, e) at wrong)) .1)))
 
   short-one : (mustBeFixed exchange (attributeType s) || isDuration exchange (attributeType s)) ≡ true → attributeSize s ≤ 8
   short-one h = by-test (mustBeFixed exchange (attributeType s)) short-fixed (λ e. short-duration (rw e at h))
@@ -92,7 +93,8 @@ wanted-once (w ∷ ws) t h =
     (λ e. let same : wantedTimes ws t ≡ 0 = ap (wantedTimes ws) (eqb-true t w e) ∙ eqb-true _ _ (two .0) in rw (e, same) (omega arith))
     (λ e. rw e (omega (arith, wanted-once ws t (two .1))))
 
-wanted-short : (exchange : ℕ) (ws : List ℕ) (t : ℕ) → allShort exchange ws ≡ true → 1 ≤ wantedTimes ws t → (mustBeFixed exchange t || isDuration exchange t) ≡ true
+wanted-short : (exchange : ℕ) (ws : List ℕ) (t : ℕ) → allShort exchange ws ≡ true → 1 ≤ wantedTimes ws t →
+    (mustBeFixed exchange t || isDuration exchange t) ≡ true
 unfolding allShort wantedTimes
 wanted-short exchange [] t h l = absurd (omega arith)
 wanted-short exchange (w ∷ ws) t h l =
@@ -170,7 +172,9 @@ module _ (exchange : ℕ) (ws : List ℕ) (once : apart ws ≡ true) (brief : al
       let code : ℕ = attributeCode exchange before s in
       by-test (eqb (length s) 0) (λ e. hit-none (suc k) s (eqb-true _ _ e))
       (λ e. by-test (eqb code 0)
-      (λ f. hit-on k s (eqb-false _ _ e) (sound exchange before s (eqb-true code 0 f)) (hit k (before ++ take (attributeSize s) s) (drop (attributeSize s) s) (rw (e, f) at h)))
+      (λ f.
+      let rest : Hit ws k (drop (attributeSize s) s) = hit k (before ++ take (attributeSize s) s) (drop (attributeSize s) s) (rw (e, f) at h) in
+      hit-on k s (eqb-false _ _ e) (sound exchange before s (eqb-true code 0 f)) rest)
       (λ f. absurd (eqb-false code 0 f (rw (e, f) at h))))
 
   -- as many attributes as there are wanted types, each of them there: at most 8 bytes each

@@ -74,7 +74,8 @@ module _ (left exchange at : ℕ) (all : List ℕ) (goal : ℕ) (so-far : attrib
     unfolding attributesFrom
     attributes-many z = (rw (z, ne-eqb (length (drop at all)) 0 some) refl) ∙ so-far
 
-    module _ (may : left ≡ 0 → ⊥) (before s : List ℕ) (eb : before ≡ take at all) (es : s ≡ drop at all) (code : ℕ) (ec : code ≡ attributeCode exchange before s) where
+    module _ (may : left ≡ 0 → ⊥) (before s : List ℕ) (eb : before ≡ take at all) (es : s ≡ drop at all) (code : ℕ)
+        (ec : code ≡ attributeCode exchange before s) where
       turn : goal ≡ (if not (eqb code 0) then code else attributesFrom (left - 1) exchange (before ++ take (attributeSize s) s) (drop (attributeSize s) s))
       turn = rw (← so-far, attributes-step left exchange (take at all) (drop at all) may, ne-eqb (length (drop at all)) 0 some, ← es, ← eb, ← ec)
 

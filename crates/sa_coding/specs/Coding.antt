@@ -1,5 +1,5 @@
 -- How the attributes of a transform are to be coded, document 01, "SA payload". s begins at an attribute.
-use Prim.Native.Nat.{ℕ, zero, suc, _+_}
+use Prim.Native.Nat.{ℕ, zero, suc}
 use mathlib.Core.List.{[], _++_}
 use mathlib.Core.Bool.{Bool, not, _||_, _&&_}
 use lib.ListN.{length, take}
@@ -42,7 +42,7 @@ attributeCode exchange before s =
     else 0
 
 -- one attribute after the other, at most k, "or a 17th: 15"
-unfoldable pub attributesFrom : (k exchange : ℕ) (before s : Bytes) → ℕ
+unfoldable pub attributesFrom : (k exchange : ℕ) (before s : Bytes) → Code
 attributesFrom zero exchange before s = if eqb (length s) 0 then 0 else 15
 attributesFrom (suc k) exchange before s =
     if eqb (length s) 0 then 0

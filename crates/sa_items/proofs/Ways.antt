@@ -10,11 +10,13 @@ use Rattle.wire_read.specs.Tests.{if_then_else_}
 use Rattle.sa_items.specs.Items.{numbered}
 
 module _ (first rest : List ℕ → List ℕ) (left number : ℕ) (s : List ℕ) where
-  numbered-step : (left ≡ 0 → ⊥) → numbered first rest left number s ≡ (if eqb (getD s 4 0) number then first s else numbered first rest (left - 1) number (rest s))
+  numbered-step : (left ≡ 0 → ⊥) →
+      numbered first rest left number s ≡ (if eqb (getD s 4 0) number then first s else numbered first rest (left - 1) number (rest s))
   unfolding numbered
   numbered-step h = stepped left h
     where
-      stepped : (n : ℕ) → (n ≡ 0 → ⊥) → numbered first rest n number s ≡ (if eqb (getD s 4 0) number then first s else numbered first rest (n - 1) number (rest s))
+      stepped : (n : ℕ) → (n ≡ 0 → ⊥) →
+          numbered first rest n number s ≡ (if eqb (getD s 4 0) number then first s else numbered first rest (n - 1) number (rest s))
       stepped zero h = absurd (h refl)
       stepped (suc n) h = let i : suc n - 1 ≡ n = omega arith in rw i
 

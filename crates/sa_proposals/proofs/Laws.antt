@@ -151,7 +151,9 @@ unfolding offerCode
 offer-reads exchange body h =
     by-test (ltb (length body) 8) (λ a. absurd (omega (arith, rw a at h)))
     (λ a. by-test (eqb (numberAt 4 body 0) 1)
-    (λ b. by-test (eqb (numberAt 4 body 4) 1) (λ c. reads 16 exchange 0 none (drop 8 body) (rw (a, b, c) at h)) (λ c. absurd (omega (arith, rw (a, b, c) at h))))
+    (λ b. by-test (eqb (numberAt 4 body 4) 1)
+    (λ c. reads 16 exchange 0 none (drop 8 body) (rw (a, b, c) at h))
+    (λ c. absurd (omega (arith, rw (a, b, c) at h))))
     (λ b. absurd (omega (arith, rw (a, b) at h))))
 
 -- ---- transforms

@@ -24,7 +24,8 @@ module _ (previous : ℕ) (set : Protocols) (number : ℕ) where
   unfolding setBefore
   set-begins h r e = rw (ne-eqb number previous h) e
 
-module _ (exchange : ℕ) (s : List ℕ) (count : ℕ) (inner : List ℕ) (code : ℕ) (en : count ≡ getD s 7 0) (ei : inner ≡ transformBytes s) (ec : code ≡ transformsCode count exchange 0 inner) where
+module _ (exchange : ℕ) (s : List ℕ) (count : ℕ) (inner : List ℕ) (code : ℕ) (en : count ≡ getD s 7 0) (ei : inner ≡ transformBytes s)
+    (ec : code ≡ transformsCode count exchange 0 inner) where
   is : transformsCode (getD s 7 0) exchange 0 (transformBytes s) ≡ code
   is = cc
 
@@ -100,7 +101,9 @@ module _ (left exchange previous : ℕ) (set : Protocols) (s : List ℕ) where
       pub proposals-over : next ≡ 0 → (length rest ≡ 0 → ⊥) → 15 ≡ proposalsCode left exchange previous set s
       proposals-over z h = rw (proposals-step left exchange previous set s may, ← ec, fine, ← ex, z, ← el, ← er, ne-eqb (length rest) 0 h)
 
-      pub proposals-on : (next ≡ 0 → ⊥) → (number protocol r : ℕ) (before now : Protocols) → number ≡ getD s 4 0 → protocol ≡ getD s 5 0 → before ≡ setBefore previous set number → now ≡ with before protocol → r ≡ proposalsCode (left - 1) exchange number now rest → r ≡ proposalsCode left exchange previous set s
+      pub proposals-on : (next ≡ 0 → ⊥) → (number protocol r : ℕ) (before now : Protocols) → number ≡ getD s 4 0 → protocol ≡ getD s 5 0 →
+          before ≡ setBefore previous set number → now ≡ with before protocol → r ≡ proposalsCode (left - 1) exchange number now rest →
+          r ≡ proposalsCode left exchange previous set s
       proposals-on z number protocol r before now en ep eb ew e =
           rw (proposals-step left exchange previous set s may, ← ec, fine, ← ex, ne-eqb next 0 z, ← el, ← er, ← en, ← ep, ← eb, ← ew) e
 
@@ -121,6 +124,7 @@ module _ (exchange : ℕ) (s : List ℕ) where
       unfolding offerCode
       offer-situation h = rw (le-ltb (length s) 8 long, ← ed, one, ← es, ne-eqb situation 1 h)
 
-      pub offer-proposals : situation ≡ 1 → (start : Protocols) (rest : List ℕ) (r : ℕ) → start ≡ none → rest ≡ drop 8 s → r ≡ proposalsCode 16 exchange 0 start rest → r ≡ offerCode exchange s
+      pub offer-proposals : situation ≡ 1 → (start : Protocols) (rest : List ℕ) (r : ℕ) → start ≡ none → rest ≡ drop 8 s →
+          r ≡ proposalsCode 16 exchange 0 start rest → r ≡ offerCode exchange s
       unfolding offerCode
       offer-proposals h start rest r e0 er e = rw (le-ltb (length s) 8 long, ← ed, one, ← es, h, ← e0, ← er) e

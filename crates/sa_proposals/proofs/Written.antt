@@ -53,16 +53,20 @@ module _ (exchange : ℕ) (t : List ℕ) (l : LawfulTransform exchange t) (last 
   one-transform = rw (transform-code, l .lies, drop-length t)
 
 module _ (s : List ℕ) where
-  proposal-right : 8 ≤ length s → (eqb (getD s 0 0) 0 || eqb (getD s 0 0) 2) ≡ true → getD s 1 0 ≡ 0 → 8 + getD s 6 0 ≤ numberAt 2 s 2 → numberAt 2 s 2 ≤ length s → proposalWrong s ≡ false
+  proposal-right : 8 ≤ length s → (eqb (getD s 0 0) 0 || eqb (getD s 0 0) 2) ≡ true → getD s 1 0 ≡ 0 → 8 + getD s 6 0 ≤ numberAt 2 s 2 →
+      numberAt 2 s 2 ≤ length s → proposalWrong s ≡ false
   unfolding proposalWrong
   proposal-right long next reserved room within =
       rw (le-ltb (length s) 8 long, next, reserved, le-ltb (numberAt 2 s 2) (8 + getD s 6 0) room, le-ltb (length s) (numberAt 2 s 2) within)
 
-  inner-right : (exchange : ℕ) → transformsCode (getD s 7 0) exchange 0 (transformBytes s) ≡ 0 → (eqb exchange 2 && eqb (getD s 0 0) 2) ≡ false → innerCode exchange s ≡ 0
+  inner-right : (exchange : ℕ) → transformsCode (getD s 7 0) exchange 0 (transformBytes s) ≡ 0 → (eqb exchange 2 && eqb (getD s 0 0) 2) ≡ false →
+      innerCode exchange s ≡ 0
   unfolding innerCode
   inner-right exchange h next = rw (h, next)
 
-  proposal-passes : (exchange previous : ℕ) (set : Protocols) → proposalWrong s ≡ false → orderWrong previous set s ≡ false → protocolWrong exchange (getD s 5 0) ≡ false → spiWrong exchange s ≡ false → countWrong s ≡ false → innerCode exchange s ≡ 0 → proposalCode exchange previous set s ≡ 0
+  proposal-passes : (exchange previous : ℕ) (set : Protocols) → proposalWrong s ≡ false → orderWrong previous set s ≡ false →
+      protocolWrong exchange (getD s 5 0) ≡ false → spiWrong exchange s ≡ false → countWrong s ≡ false → innerCode exchange s ≡ 0 →
+      proposalCode exchange previous set s ≡ 0
   unfolding proposalCode
   proposal-passes exchange previous set a b c d e f = rw (a, b, c, d, e) f
 
@@ -93,10 +97,13 @@ module _ (next high low number protocol : ℕ) (t rest : List ℕ) where
       rw (eq-eqb (length spi) 4 four, high-enough)
 
 module _ (exchange next high low number protocol : ℕ) (spi t : List ℕ) (w : Writes exchange next high low protocol spi t) (rest : List ℕ) where
-  abbrev whole : List ℕ
-  whole = proposed next high low number protocol spi t ++ rest
+  abbrev this : List ℕ
+  this = proposed next high low number protocol spi t
 
-  pub proposed-size : numberAt 2 whole 2 ≡ length (proposed next high low number protocol spi t)
+  abbrev whole : List ℕ
+  whole = this ++ rest
+
+  pub proposed-size : numberAt 2 whole 2 ≡ length this
   unfolding numberAt
   proposed-size = omega (arith, w .lies)
 
@@ -104,8 +111,8 @@ module _ (exchange next high low number protocol : ℕ) (spi t : List ℕ) (w : 
   unfolding transformBytes
   proposed-transforms =
       ap (λ (n : ℕ). drop (8 + length spi) (take n whole)) proposed-size
-      ∙ ap (drop (8 + length spi)) (take-append-seam (proposed next high low number protocol spi t) rest)
-      ∙ sym (drop-drop (length spi) 8 (proposed next high low number protocol spi t)) ∙ drop-append-seam spi t
+      ∙ ap (drop (8 + length spi)) (take-append-seam this rest)
+      ∙ sym (drop-drop (length spi) 8 this) ∙ drop-append-seam spi t
 
   spi-right : spiWrong exchange whole ≡ false
   spi-right = key-right next high low number protocol t rest (w .key)
@@ -115,20 +122,23 @@ module _ (exchange next high low number protocol : ℕ) (spi t : List ℕ) (w : 
   proposed-code previous set order =
       let long : 8 ≤ length whole = omega arith in
       let room : 8 + length spi ≤ numberAt 2 whole 2 = omega (arith, proposed-size, length-append spi t) in
-      let within : numberAt 2 whole 2 ≤ length whole = omega (arith, proposed-size, length-append (proposed next high low number protocol spi t) rest) in
+      let within : numberAt 2 whole 2 ≤ length whole = omega (arith, proposed-size, length-append this rest) in
       let right = proposal-right whole long (next-known exchange next (w .followed)) refl room within in
       let inner : transformsCode 1 exchange 0 (transformBytes whole) ≡ 0 = rw proposed-transforms (one-transform exchange t (w .lawful) (w .last)) in
-      proposal-passes whole exchange previous set right order (w .known) spi-right refl (inner-right whole exchange inner (next-fits exchange next (w .followed)))
+      let passes = inner-right whole exchange inner (next-fits exchange next (w .followed)) in
+      proposal-passes whole exchange previous set right order (w .known) spi-right refl passes
 
-  pub proposed-lawful : (previous : ℕ) (set : Protocols) → orderWrong previous set whole ≡ false → Item exchange (proposed next high low number protocol spi t)
+  pub proposed-lawful : (previous : ℕ) (set : Protocols) → orderWrong previous set whole ≡ false → Item exchange this
   proposed-lawful previous set order =
       let item = first-lawful exchange previous set whole (proposed-code previous set order) in
-      let first : take (numberAt 2 whole 2) whole ≡ proposed next high low number protocol spi t = rw proposed-size (take-append-seam (proposed next high low number protocol spi t) rest) in
+      let first : take (numberAt 2 whole 2) whole ≡ this = rw proposed-size (take-append-seam this rest) in
       rw first at item
 
-pub alone-transforms : (exchange next high low number protocol : ℕ) (spi t : List ℕ) → Writes exchange next high low protocol spi t → transformBytes (proposed next high low number protocol spi t) ≡ t
+pub alone-transforms : (exchange next high low number protocol : ℕ) (spi t : List ℕ) → Writes exchange next high low protocol spi t →
+    transformBytes (proposed next high low number protocol spi t) ≡ t
 alone-transforms exchange next high low number protocol spi t w =
-    subst (λ (l : List ℕ). transformBytes l ≡ t) (append-nil (proposed next high low number protocol spi t)) (proposed-transforms exchange next high low number protocol spi t w [])
+    subst (λ (l : List ℕ). transformBytes l ≡ t) (append-nil (proposed next high low number protocol spi t))
+    (proposed-transforms exchange next high low number protocol spi t w [])
 
 -- ---- one proposal after the other
 
@@ -139,7 +149,8 @@ order-first s = rw (le-ltb (getD s 4 0) 0 (omega arith)) (by-test (eqb (getD s 4
 not-both : (a b k : ℕ) → (a ≡ b → ⊥) → (eqb a k && eqb b k) ≡ false
 not-both a b k h = by-test (eqb a k) (λ e. rw e (ne-eqb b k (λ f. h (eqb-true a k e ∙ sym f)))) (λ e. rw e)
 
-order-second : (number a b : ℕ) (s : List ℕ) → getD s 4 0 ≡ number → getD s 5 0 ≡ b → (a ≡ b → ⊥) → orderWrong number (with (setBefore 0 none number) a) s ≡ false
+order-second : (number a b : ℕ) (s : List ℕ) → getD s 4 0 ≡ number → getD s 5 0 ≡ b → (a ≡ b → ⊥) →
+    orderWrong number (with (setBefore 0 none number) a) s ≡ false
 unfolding orderWrong setBefore none has with
 order-second number a b s en eb h =
     let same : eqb number number ≡ true = eq-eqb number number refl in
@@ -153,7 +164,9 @@ module _ (left exchange previous : ℕ) (set : Protocols) (s : List ℕ) (fine :
   unfolding proposalsCode
   last-proposal z e = rw (fine, z, e)
 
-  pub more-proposals : (getD s 0 0 ≡ 0 → ⊥) → proposalsCode left exchange (getD s 4 0) (with (setBefore previous set (getD s 4 0)) (getD s 5 0)) (drop (numberAt 2 s 2) s) ≡ 0 → proposalsCode (suc left) exchange previous set s ≡ 0
+  pub more-proposals : (getD s 0 0 ≡ 0 → ⊥) →
+      proposalsCode left exchange (getD s 4 0) (with (setBefore previous set (getD s 4 0)) (getD s 5 0)) (drop (numberAt 2 s 2) s) ≡ 0 →
+      proposalsCode (suc left) exchange previous set s ≡ 0
   unfolding proposalsCode
   more-proposals z e = rw (fine, ne-eqb (getD s 0 0) 0 z) e
 
@@ -171,14 +184,16 @@ module _ (exchange high low number protocol : ℕ) (spi t : List ℕ) (w : Write
       let same : last-one ++ [] ≡ last-one = append-nil last-one in
       let ordered : orderWrong previous set (last-one ++ []) ≡ false = rw same order in
       let fine : proposalCode exchange previous set last-one ≡ 0 =
-      subst (λ (l : List ℕ). proposalCode exchange previous set l ≡ 0) same (proposed-code exchange 0 high low number protocol spi t w [] previous set ordered) in
+      subst (λ (l : List ℕ). proposalCode exchange previous set l ≡ 0) same
+      (proposed-code exchange 0 high low number protocol spi t w [] previous set ordered) in
       last-proposal left exchange previous set last-one fine refl (rw last-size (ap length (drop-length last-one)))
 
   pub one-reads : proposalsCode 16 exchange 0 none last-one ≡ 0
   one-reads = last-reads 15 0 none (order-first last-one)
 
 -- two of one number, with different protocols
-module _ (exchange high low number protocol : ℕ) (spi t : List ℕ) (w : Writes exchange 2 high low protocol spi t) (high2 low2 protocol2 : ℕ) (spi2 t2 : List ℕ) (w2 : Writes exchange 0 high2 low2 protocol2 spi2 t2) (other : protocol ≡ protocol2 → ⊥) where
+module _ (exchange high low number protocol : ℕ) (spi t : List ℕ) (w : Writes exchange 2 high low protocol spi t) (high2 low2 protocol2 : ℕ)
+    (spi2 t2 : List ℕ) (w2 : Writes exchange 0 high2 low2 protocol2 spi2 t2) (other : protocol ≡ protocol2 → ⊥) where
   abbrev first-one : List ℕ
   first-one = proposed 2 high low number protocol spi t
 
@@ -190,12 +205,15 @@ module _ (exchange high low number protocol : ℕ) (spi t : List ℕ) (w : Write
       let fine = proposed-code exchange 2 high low number protocol spi t w second-one 0 none (order-first (first-one ++ second-one)) in
       let rest : drop (numberAt 2 (first-one ++ second-one) 2) (first-one ++ second-one) ≡ second-one =
       rw (proposed-size exchange 2 high low number protocol spi t w second-one) (drop-append-seam first-one second-one) in
-      let after : proposalsCode 15 exchange number (with (setBefore 0 none number) protocol) second-one ≡ 0 =
-      last-reads exchange high2 low2 number protocol2 spi2 t2 w2 14 number (with (setBefore 0 none number) protocol) (order-second number protocol protocol2 second-one refl refl other) in
+      let before : Protocols = with (setBefore 0 none number) protocol in
+      let order = order-second number protocol protocol2 second-one refl refl other in
+      let after : proposalsCode 15 exchange number before second-one ≡ 0 =
+      last-reads exchange high2 low2 number protocol2 spi2 t2 w2 14 number before order in
       more-proposals 15 exchange 0 none (first-one ++ second-one) fine (λ z. omega arith) (rw rest after)
 
 -- ---- the body
 
-pub offer-right : (exchange : ℕ) (s : List ℕ) → 8 ≤ length s → numberAt 4 s 0 ≡ 1 → numberAt 4 s 4 ≡ 1 → proposalsCode 16 exchange 0 none (drop 8 s) ≡ 0 → offerCode exchange s ≡ 0
+pub offer-right : (exchange : ℕ) (s : List ℕ) → 8 ≤ length s → numberAt 4 s 0 ≡ 1 → numberAt 4 s 4 ≡ 1 →
+    proposalsCode 16 exchange 0 none (drop 8 s) ≡ 0 → offerCode exchange s ≡ 0
 unfolding offerCode
 offer-right exchange s long doi situation h = rw (le-ltb (length s) 8 long, doi, situation) h

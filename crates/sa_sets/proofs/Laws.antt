@@ -103,8 +103,10 @@ set-end n a (on {p = p} {ps = ps} i o r) zero h = absurd (omega arith)
 set-end n a (on {p = p} {ps = ps} i o r) (suc left) h =
     let room : length a + 8 ≤ length (a ++ (p ++ flatten ps)) = omega (arith, length-append a (p ++ flatten ps), length-append p (flatten ps)) in
     let long : ltb (length (a ++ (p ++ flatten ps))) (length a + 8) ≡ false = le-ltb _ _ room in
-    let number : getD (a ++ (p ++ flatten ps)) (length a + 4) 0 ≡ getD p 4 0 = getD-append-add a (p ++ flatten ps) 4 0 ∙ List·getD-append p (flatten ps) 0 4 (omega arith) in
-    let size : numberAt 2 (a ++ (p ++ flatten ps)) (length a + 2) ≡ length p = number-append-add 2 a (p ++ flatten ps) 2 ∙ number-append 2 p (flatten ps) 2 (omega arith) ∙ i .lies in
+    let number : getD (a ++ (p ++ flatten ps)) (length a + 4) 0 ≡ getD p 4 0 =
+    getD-append-add a (p ++ flatten ps) 4 0 ∙ List·getD-append p (flatten ps) 0 4 (omega arith) in
+    let size : numberAt 2 (a ++ (p ++ flatten ps)) (length a + 2) ≡ length p =
+    number-append-add 2 a (p ++ flatten ps) 2 ∙ number-append 2 p (flatten ps) 2 (omega arith) ∙ i .lies in
     by-test (eqb (getD p 4 0) n) (λ e. rw (long, number, e, size, ← append-assoc a p (flatten ps), ← length-append a p)
     (set-end n (a ++ p) r left (omega arith) ∙ omega (arith, length-append a p, length-append p (flatten (front n ps)))))
     (λ e. rw (long, number, e) (omega arith))
@@ -168,7 +170,8 @@ pub flatten-some : {exchange : ℕ} (p : List ℕ) (ps : List (List ℕ)) → It
 unfolding flatten
 flatten-some p ps i = omega (arith, length-append p (flatten ps))
 
-grouped-sets : (left : ℕ) {exchange least : ℕ} {ps : List (List ℕ)} → Rising exchange least ps → length ps ≤ left → length ps ≤ 16 → Sets exchange least (flatten ps) (grouped left ps)
+grouped-sets : (left : ℕ) {exchange least : ℕ} {ps : List (List ℕ)} → Rising exchange least ps → length ps ≤ left → length ps ≤ 16 →
+    Sets exchange least (flatten ps) (grouped left ps)
 unfolding grouped
 grouped-sets zero end h few = unfold flatten in sets-end
 grouped-sets zero (on i o r) h few = absurd (omega arith)
@@ -176,7 +179,8 @@ grouped-sets (suc left) end h few = unfold flatten in sets-end
 grouped-sets (suc left) {exchange} (on {p = p} {ps = ps} i o r) h few =
     let n : ℕ = getD p 4 0 in
     let fewer : length (p ∷ front n ps) ≤ 16 = omega (arith, front-few n ps) in
-    let rest : Sets exchange (suc n) (flatten (back n ps)) (grouped left (back n ps)) = grouped-sets left (back-rising n r (omega arith)) (omega (arith, back-few n ps)) (omega (arith, back-few n ps)) in
+    let rest : Sets exchange (suc n) (flatten (back n ps)) (grouped left (back n ps)) =
+    grouped-sets left (back-rising n r (omega arith)) (omega (arith, back-few n ps)) (omega (arith, back-few n ps)) in
     sets-on (flatten-some p ps i) (first-set p ps i r few) (on i o (front-rising n r)) (front-same n ps) fewer (rw (← after-set p ps i r few) at rest)
 
 -- a readable offer: its proposals, and the same by sets
@@ -225,19 +229,33 @@ after-within s = drop-within (numberAt 2 s 2) s
 pub transform-within : (number : TransformNumber) (p : List ℕ) → length (transformNumbered number p) ≤ length p
 unfolding transformNumbered transformBytes
 transform-within number p =
-    omega (arith, numbered-within firstItem afterItem first-within after-within 8 (number .0) (transformBytes p), drop-within (8 + getD p 6 0) (take (numberAt 2 p 2) p), take-within (numberAt 2 p 2) p)
-
-pub set-within : (number : ProposalNumber) (body : List ℕ) → length (setNumbered number body) ≤ length body
-unfolding setNumbered firstSet afterSet
-set-within number body =
     omega (
       arith,
-      numbered-within firstSet afterSet (λ s. take-within (setEnd 16 (getD s 4 0) s 0) s) (λ s. drop-within (setEnd 16 (getD s 4 0) s 0) s) 16 (number .0) (drop 8 body),
-      drop-within 8 body,
+      numbered-within firstItem afterItem first-within after-within 8 (number .0) (transformBytes p),
+      drop-within (8 + getD p 6 0) (take (numberAt 2 p 2) p),
+      take-within (numberAt 2 p 2) p,
     )
+
+first-set-within : (s : List ℕ) → length (firstSet s) ≤ length s
+unfolding firstSet
+first-set-within s = take-within (setEnd 16 (getD s 4 0) s 0) s
+
+after-set-within : (s : List ℕ) → length (afterSet s) ≤ length s
+unfolding afterSet
+after-set-within s = drop-within (setEnd 16 (getD s 4 0) s 0) s
+
+pub set-within : (number : ProposalNumber) (body : List ℕ) → length (setNumbered number body) ≤ length body
+unfolding setNumbered
+set-within number body =
+    omega (arith, numbered-within firstSet afterSet first-set-within after-set-within 16 (number .0) (drop 8 body), drop-within 8 body)
 
 -- the first two proposals lie one behind the other
 pub two-within : (s : List ℕ) → length (proposal 0 s) + length (proposal 1 s) ≤ length s
 unfolding proposal firstItem afterItem skip
 two-within s =
-    omega (arith, length-take (numberAt 2 s 2) s, length-drop (numberAt 2 s 2) s, take-within (numberAt 2 (drop (numberAt 2 s 2) s) 2) (drop (numberAt 2 s 2) s))
+    omega (
+      arith,
+      length-take (numberAt 2 s 2) s,
+      length-drop (numberAt 2 s 2) s,
+      take-within (numberAt 2 (drop (numberAt 2 s 2) s) 2) (drop (numberAt 2 s 2) s),
+    )

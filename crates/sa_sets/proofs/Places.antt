@@ -40,14 +40,17 @@ item-at end j h = absurd (omega arith)
 item-at (on i o r) zero h = i
 item-at (on i o r) (suc j) h = item-at r j (omega arith)
 
-items-count : {exchange least : ℕ} {ps : List (List ℕ)} → Rising exchange least ps → (left : ℕ) → length ps ≤ left → parts afterItem left (flatten ps) ≡ length ps
+items-count : {exchange least : ℕ} {ps : List (List ℕ)} → Rising exchange least ps → (left : ℕ) → length ps ≤ left →
+    parts afterItem left (flatten ps) ≡ length ps
 unfolding flatten
 items-count end left h = parts-none afterItem left
 items-count (on i o r) zero h = absurd (omega arith)
 items-count (on {p = p} {ps = ps} i o r) (suc left) h =
-    parts-on afterItem left (p ++ flatten ps) (omega (arith, length-append p (flatten ps))) ∙ rw (after-item p (flatten ps) i) (ap suc (items-count r left (omega arith)))
+    parts-on afterItem left (p ++ flatten ps) (omega (arith, length-append p (flatten ps)))
+    ∙ rw (after-item p (flatten ps) i) (ap suc (items-count r left (omega arith)))
 
-items-place : {exchange least : ℕ} {ps : List (List ℕ)} → Rising exchange least ps → (j : ℕ) → j < length ps → firstItem (skip afterItem j (flatten ps)) ≡ getD ps j []
+items-place : {exchange least : ℕ} {ps : List (List ℕ)} → Rising exchange least ps → (j : ℕ) → j < length ps →
+    firstItem (skip afterItem j (flatten ps)) ≡ getD ps j []
 unfolding flatten skip
 items-place end j h = absurd (omega arith)
 items-place (on {p = p} {ps = ps} i o r) zero h = first-item p (flatten ps) i
@@ -75,7 +78,8 @@ pub record LawfulSet (exchange : ℕ) (s : List ℕ) : Type 0 where
   pub lawful : (j : ℕ) → j < proposalCount s → Item exchange (proposal j s)
   pub one-number : (j : ℕ) → j < proposalCount s → proposalNumber (proposal j s) ≡ proposalNumber (proposal 0 s)
 
-lawful-set : {exchange least : ℕ} (p : List ℕ) (ps : List (List ℕ)) → Rising exchange least (p ∷ ps) → Same (getD p 4 0) ps → length (p ∷ ps) ≤ 16 → LawfulSet exchange (flatten (p ∷ ps))
+lawful-set : {exchange least : ℕ} (p : List ℕ) (ps : List (List ℕ)) → Rising exchange least (p ∷ ps) → Same (getD p 4 0) ps → length (p ∷ ps) ≤ 16 →
+    LawfulSet exchange (flatten (p ∷ ps))
 unfolding proposalNumber
 lawful-set p ps r m few =
     let count = proposals-count r few in
@@ -85,12 +89,14 @@ lawful-set p ps r m few =
       one-number = λ j h. rw (proposals-place r j (omega arith), proposals-place r 0 (omega arith), same-at (same-on {p = p} refl m) j (omega arith));
     }
 
-sets-count : {exchange least : ℕ} {s : List ℕ} {gs : List (List (List ℕ))} → Sets exchange least s gs → (left : ℕ) → length gs ≤ left → parts afterSet left s ≡ length gs
+sets-count : {exchange least : ℕ} {s : List ℕ} {gs : List (List (List ℕ))} → Sets exchange least s gs → (left : ℕ) → length gs ≤ left →
+    parts afterSet left s ≡ length gs
 sets-count sets-end left h = parts-none afterSet left
 sets-count (sets-on z f r m c g) zero h = absurd (omega arith)
 sets-count (sets-on {s = s} z f r m c g) (suc left) h = parts-on afterSet left s z ∙ ap suc (sets-count g left (omega arith))
 
-sets-lawful : {exchange least : ℕ} {s : List ℕ} {gs : List (List (List ℕ))} → Sets exchange least s gs → (k : ℕ) → k < length gs → LawfulSet exchange (firstSet (skip afterSet k s))
+sets-lawful : {exchange least : ℕ} {s : List ℕ} {gs : List (List (List ℕ))} → Sets exchange least s gs → (k : ℕ) → k < length gs →
+    LawfulSet exchange (firstSet (skip afterSet k s))
 unfolding skip
 sets-lawful sets-end k h = absurd (omega arith)
 sets-lawful (sets-on {p = p} {ps = ps} z f r m c g) zero h = rw f (lawful-set p ps r m c)
@@ -103,17 +109,20 @@ module _ {exchange : ℕ} (s p : List ℕ) (ps : List (List ℕ)) (f : firstSet 
   begins =
       let whole : (p ++ flatten ps) ++ drop (setEnd 16 (getD s 4 0) s 0) s ≡ s = rw (← f) (take-append-drop (setEnd 16 (getD s 4 0) s 0) s) in
       let long : 4 < length (p ++ flatten ps) = omega (arith, length-append p (flatten ps), item .long) in
-      ap (λ (l : List ℕ). getD l 4 0) (sym whole) ∙ List·getD-append (p ++ flatten ps) _ 0 4 long ∙ List·getD-append p (flatten ps) 0 4 (omega (arith, item .long))
+      ap (λ (l : List ℕ). getD l 4 0) (sym whole) ∙ List·getD-append (p ++ flatten ps) _ 0 4 long
+      ∙ List·getD-append p (flatten ps) 0 4 (omega (arith, item .long))
 
   first-number : getD (proposal 0 (firstSet s)) 4 0 ≡ getD p 4 0
   unfolding proposal skip flatten
   first-number = rw (f, first-item p (flatten ps) item)
 
 module _ {exchange : ℕ} where
-  number-least : {least : ℕ} {s : List ℕ} {gs : List (List (List ℕ))} → Sets exchange least s gs → (k : ℕ) → k < length gs → least ≤ getD (proposal 0 (firstSet (skip afterSet k s))) 4 0
+  number-least : {least : ℕ} {s : List ℕ} {gs : List (List (List ℕ))} → Sets exchange least s gs → (k : ℕ) → k < length gs →
+      least ≤ getD (proposal 0 (firstSet (skip afterSet k s))) 4 0
   unfolding skip
   number-least sets-end k h = absurd (omega arith)
-  number-least (sets-on {s = s} {p = p} {ps = ps} z f r m c g) zero h = omega (arith, least-at r 0 (omega arith), first-number s p ps f (item-at r 0 (omega arith)))
+  number-least (sets-on {s = s} {p = p} {ps = ps} z f r m c g) zero h =
+      omega (arith, least-at r 0 (omega arith), first-number s p ps f (item-at r 0 (omega arith)))
   number-least (sets-on z f r m c g) (suc k) h = omega (arith, least-at r 0 (omega arith), number-least g k (omega arith))
 
   sets-numbered : {least : ℕ} {s : List ℕ} {gs : List (List (List ℕ))} → Sets exchange least s gs → (k left : ℕ) → k < length gs → length gs ≤ left →
@@ -151,7 +160,8 @@ pub record OneSet (body : List ℕ) (ps : List (List ℕ)) : Type 0 where
   pub count : proposalCount (set 0 body) ≡ length ps
   pub place : (j : ℕ) → j < length ps → proposal j (set 0 body) ≡ getD ps j []
 
-module _ {exchange : ℕ} (body p : List ℕ) (ps : List (List ℕ)) (item : Item exchange p) (r : Rising exchange (getD p 4 0) ps) (m : Same (getD p 4 0) ps) (few : length (p ∷ ps) ≤ 16) (whole : drop 8 body ≡ flatten (p ∷ ps)) where
+module _ {exchange : ℕ} (body p : List ℕ) (ps : List (List ℕ)) (item : Item exchange p) (r : Rising exchange (getD p 4 0) ps)
+    (m : Same (getD p 4 0) ps) (few : length (p ∷ ps) ≤ 16) (whole : drop 8 body ≡ flatten (p ∷ ps)) where
   all-rising : Rising exchange (getD p 4 0) (p ∷ ps)
   all-rising = let least : getD p 4 0 ≤ getD p 4 0 = omega arith in on item least r
 

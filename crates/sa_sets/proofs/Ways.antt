@@ -12,7 +12,9 @@ use Rattle.wire_read.specs.Tests.{if_then_else_}
 use Rattle.sa_sets.specs.Sets.{setEnd}
 
 end-step : (left number : ℕ) (s : List ℕ) (at : ℕ) → (left ≡ 0 → ⊥) →
-    setEnd left number s at ≡ (if ltb (length s) (at + 8) || not (eqb (getD s (at + 4) 0) number) then at else setEnd (left - 1) number s (at + numberAt 2 s (at + 2)))
+    setEnd left number s at
+    ≡ (if ltb (length s) (at + 8) || not (eqb (getD s (at + 4) 0) number) then at
+    else setEnd (left - 1) number s (at + numberAt 2 s (at + 2)))
 unfolding setEnd
 end-step zero number s at h = absurd (h refl)
 end-step (suc left) number s at h = let i : suc left - 1 ≡ left = omega arith in rw i
@@ -30,5 +32,6 @@ module _ (left number : ℕ) (s : List ℕ) (at : ℕ) where
       pub end-other : (ltb (length s) (at + 8) || not (eqb b number)) ≡ true → at ≡ setEnd left number s at
       end-other h = rw (end-step left number s at may, ← eb, h)
 
-      pub end-on : (ltb (length s) (at + 8) || not (eqb b number)) ≡ false → (n r : ℕ) → n ≡ numberAt 2 s (at + 2) → r ≡ setEnd (left - 1) number s (at + n) → r ≡ setEnd left number s at
+      pub end-on : (ltb (length s) (at + 8) || not (eqb b number)) ≡ false → (n r : ℕ) → n ≡ numberAt 2 s (at + 2) →
+          r ≡ setEnd (left - 1) number s (at + n) → r ≡ setEnd left number s at
       end-on h n r en e = rw (end-step left number s at may, ← eb, h, ← en) e

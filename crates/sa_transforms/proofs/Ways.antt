@@ -22,7 +22,8 @@ module _ (exchange left least : ℕ) (s : List ℕ) (w : Bool) (ew : w ≡ trans
     unfolding transformCode
     transform-low h = rw (← ew, right, ← en, lt-ltb number least h)
 
-    pub transform-attributes : least ≤ number → (n r : ℕ) (whole rest : List ℕ) → n ≡ numberAt 2 s 2 → whole ≡ take n s → rest ≡ drop 8 whole → r ≡ attributesCode exchange rest → r ≡ transformCode exchange left least s
+    pub transform-attributes : least ≤ number → (n r : ℕ) (whole rest : List ℕ) → n ≡ numberAt 2 s 2 → whole ≡ take n s → rest ≡ drop 8 whole →
+        r ≡ attributesCode exchange rest → r ≡ transformCode exchange left least s
     unfolding transformCode
     transform-attributes h n r whole rest el et ed er = rw (← ew, right, ← en, le-ltb number least h, ← el, ← et, ← ed) er
 
@@ -47,5 +48,6 @@ module _ (count exchange least : ℕ) (s : List ℕ) where
     pub transforms-refused : (code ≡ 0 → ⊥) → code ≡ transformsCode count exchange least s
     transforms-refused h = rw (transforms-step count exchange least s may, ← ec, ne-eqb code 0 h)
 
-    pub transforms-on : code ≡ 0 → (number n r : ℕ) (rest : List ℕ) → number ≡ getD s 4 0 → n ≡ numberAt 2 s 2 → rest ≡ drop n s → r ≡ transformsCode (count - 1) exchange (number + 1) rest → r ≡ transformsCode count exchange least s
+    pub transforms-on : code ≡ 0 → (number n r : ℕ) (rest : List ℕ) → number ≡ getD s 4 0 → n ≡ numberAt 2 s 2 → rest ≡ drop n s →
+        r ≡ transformsCode (count - 1) exchange (number + 1) rest → r ≡ transformsCode count exchange least s
     transforms-on h number n r rest en el er e = rw (transforms-step count exchange least s may, ← ec, h, ← en, ← el, ← er) e

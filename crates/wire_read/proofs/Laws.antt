@@ -1,5 +1,5 @@
 -- The laws of specs/Wire.antt that readers cite: parts, big-endian numbers, comparisons.
-use Prim.Native.Nat.{ℕ, zero, suc, _+_, _-_, _*_, _^_, _≤_, _<_}
+use Prim.Native.Nat.{ℕ, zero, suc, _+_, _*_, _^_, _≤_, _<_}
 use mathlib.Core.Path.{_≡_, refl, sym, ap, _∙_}
 use mathlib.Core.List.{List, [], _∷_, _++_}
 use mathlib.Core.Bool.{true}
@@ -39,7 +39,8 @@ pub number-append : (n : ℕ) (s t : List ℕ) (i : ℕ) → i + n ≤ length s 
 number-append n s t i h = number-agree n (s ++ t) s i i (λ k l. List·getD-append s t 0 (i + k) (omega arith))
 
 pub number-append-add : (n : ℕ) (s t : List ℕ) (i : ℕ) → numberAt n (s ++ t) (length s + i) ≡ numberAt n t i
-number-append-add n s t i = number-agree n (s ++ t) t (length s + i) i (λ k l. ap (λ (x : ℕ). getD (s ++ t) x 0) (add-assoc (length s) i k) ∙ getD-append-add s t (i + k) 0)
+number-append-add n s t i =
+    number-agree n (s ++ t) t (length s + i) i (λ k l. ap (λ (x : ℕ). getD (s ++ t) x 0) (add-assoc (length s) i k) ∙ getD-append-add s t (i + k) 0)
 
 -- a number is its first bytes, moved up, and its last
 pub number-join : (m n : ℕ) (s : List ℕ) (i : ℕ) → numberAt (m + n) s i ≡ numberAt m s i * 256 ^ n + numberAt n s (i + m)

@@ -27,7 +27,8 @@ one-read s i a l h ea =
     let short : length s ≤ i + 1 = omega arith in
     omega (arith, two-read s i a 0 ea (sym (List·getD-eq-default s 0 short)))
 
-pub four-read : (s : List ℕ) (i a b c d : ℕ) → a ≡ getD s i 0 → b ≡ getD s (i + 1) 0 → c ≡ getD s (i + 2) 0 → d ≡ getD s (i + 3) 0 → a * 16777216 + b * 65536 + c * 256 + d ≡ numberAt 4 s i
+pub four-read : (s : List ℕ) (i a b c d : ℕ) → a ≡ getD s i 0 → b ≡ getD s (i + 1) 0 → c ≡ getD s (i + 2) 0 → d ≡ getD s (i + 3) 0 →
+    a * 16777216 + b * 65536 + c * 256 + d ≡ numberAt 4 s i
 four-read s i a b c d ea eb ec ed =
     let last : i + 3 ≡ i + 2 + 1 = omega arith in
     let low = two-read s (i + 2) c d ec (ed ∙ ap (λ (k : ℕ). getD s k 0) last) in

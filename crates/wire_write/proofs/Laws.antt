@@ -1,5 +1,5 @@
 -- The laws of specs/Put.antt that writers cite: the bytes of a number, and what a written buffer holds.
-use Prim.Native.Nat.{ℕ, zero, suc, _+_, _-_, _/_, _%_, _^_, _≤_, _<_}
+use Prim.Native.Nat.{ℕ, zero, suc, _+_, _/_, _%_, _^_, _≤_, _<_}
 use mathlib.Core.Path.{_≡_, refl, sym, ap, _∙_}
 use mathlib.Core.Logic.{_⊎_, inl, inr, ⊎-elim}
 use mathlib.Core.List.{List, [], _∷_, _++_, append-assoc}
@@ -40,7 +40,8 @@ number-bytesOf (suc n) x h =
     let high : numberAt n (bytesOf n (x / 256) ++ (x % 256 ∷ [])) 0 ≡ x / 256 =
     number-append n (bytesOf n (x / 256)) (x % 256 ∷ []) 0 (omega (arith, length-bytesOf n (x / 256))) ∙ number-bytesOf n (x / 256) small in
     let low : getD (bytesOf n (x / 256) ++ (x % 256 ∷ [])) (0 + n) 0 ≡ x % 256 =
-    ap (λ (k : ℕ). getD (bytesOf n (x / 256) ++ (x % 256 ∷ [])) k 0) (omega (arith, length-bytesOf n (x / 256))) ∙ getD-append-add (bytesOf n (x / 256)) (x % 256 ∷ []) 0 0 in
+    ap (λ (k : ℕ). getD (bytesOf n (x / 256) ++ (x % 256 ∷ [])) k 0) (omega (arith, length-bytesOf n (x / 256)))
+    ∙ getD-append-add (bytesOf n (x / 256)) (x % 256 ∷ []) 0 0 in
     rw (high, low) (omega arith)
 
 -- ---- what begins with its length
@@ -58,7 +59,8 @@ pub headed-lies : (next : ℕ) (rest : List ℕ) → 4 + length rest < 65536 →
 unfolding headed head
 headed-lies next rest h =
     number-append-add 2 (next ∷ 0 ∷ []) (bytesOf 2 (4 + length rest) ++ rest) 0
-    ∙ number-append 2 (bytesOf 2 (4 + length rest)) rest 0 (omega (arith, length-bytesOf 2 (4 + length rest))) ∙ number-bytesOf 2 (4 + length rest) (omega arith)
+    ∙ number-append 2 (bytesOf 2 (4 + length rest)) rest 0 (omega (arith, length-bytesOf 2 (4 + length rest)))
+    ∙ number-bytesOf 2 (4 + length rest) (omega arith)
 
 -- ---- a written buffer
 
@@ -88,7 +90,8 @@ pub paste-before : (l : List ℕ) (i : ℕ) (xs ys : List ℕ) → paste (paste 
 unfolding paste
 paste-before l i [] ys = ap (λ (k : ℕ). paste l k ys) (omega arith)
 paste-before l i (x ∷ xs) ys =
-    ap (λ (k : List ℕ). paste k (i + 1) xs) (set-paste l i x (i + length (x ∷ xs)) ys (omega arith)) ∙ ap (λ (k : ℕ). paste (paste (set l i x) k ys) (i + 1) xs) (omega arith)
+    ap (λ (k : List ℕ). paste k (i + 1) xs) (set-paste l i x (i + length (x ∷ xs)) ys (omega arith))
+    ∙ ap (λ (k : ℕ). paste (paste (set l i x) k ys) (i + 1) xs) (omega arith)
     ∙ paste-before (set l i x) (i + 1) xs ys
 
 -- a run that fits, as the three parts of the buffer
@@ -130,7 +133,8 @@ getD-paste-other l i (x ∷ xs) k h =
 -- a written number reads back, and one beside what is written stays
 pub number-written : (n x : ℕ) (l : List ℕ) (i : ℕ) → x < 256 ^ n → i + n ≤ length l → numberAt n (paste l i (bytesOf n x)) i ≡ x
 number-written n x l i h g =
-    number-agree n (paste l i (bytesOf n x)) (bytesOf n x) i 0 (λ k b. rw zero-add (getD-paste l i (bytesOf n x) k (omega (arith, length-bytesOf n x)) (omega (arith, length-bytesOf n x))))
+    number-agree n (paste l i (bytesOf n x)) (bytesOf n x) i 0
+    (λ k b. rw zero-add (getD-paste l i (bytesOf n x) k (omega (arith, length-bytesOf n x)) (omega (arith, length-bytesOf n x))))
     ∙ number-bytesOf n x h
 
 pub number-kept : (n : ℕ) (l : List ℕ) (i : ℕ) (xs : List ℕ) (j : ℕ) → (j + n ≤ i) ⊎ (i + length xs ≤ j) → numberAt n (paste l i xs) j ≡ numberAt n l j
@@ -171,7 +175,8 @@ module _ (l b c : List ℕ) (i n : ℕ) where
       let en : length rest ≡ n = ap (λ (p : ℕ × List ℕ). p .0) e in
       rw en (put-before (head next (4 + n)) rest (rw (length-head next (4 + n)) e) f ∙ ap (λ (k : ℕ). (k + n, c)) (length-head next (4 + n)))
 
-  pub put-head-first : (next : ℕ) (rest : List ℕ) → b ≡ paste l i (head next (4 + length rest)) → c ≡ paste b (i + 4) rest → put l i (headed next rest) ≡ (4 + length rest, c)
+  pub put-head-first : (next : ℕ) (rest : List ℕ) → b ≡ paste l i (head next (4 + length rest)) → c ≡ paste b (i + 4) rest →
+      put l i (headed next rest) ≡ (4 + length rest, c)
   unfolding put headed
   put-head-first next rest e f =
       let four : length (head next (4 + length rest)) ≡ 4 = length-head next (4 + length rest) in

@@ -93,7 +93,15 @@ pub +element+list-spec : {M : Type 1} → statement M
     (λ c κs. search needs)
     (λ c κs. (omega arith, tt))
     (λ c. search list-stop)
-    (λ c. let at-loop = c .before .before .before .before in let within : at-loop .loop .at + c .before .element .result ≤ length (now (at-loop .before .before .args .s)) = search list-within in omega arith)
-    (λ c. let at-loop = c .before .before .before .before in let within : at-loop .loop .at + c .before .element .result ≤ length (now (at-loop .before .before .args .s)) = search list-within in omega arith)
+    (λ c.
+    let called = c .before in
+    let at-loop = called .before .before .before in
+    let within : at-loop .loop .at + called .element .result ≤ length (now (at-loop .before .before .args .s)) = search list-within in
+    omega arith)
+    (λ c.
+    let called = c .before in
+    let at-loop = called .before .before .before in
+    let within : at-loop .loop .at + called .element .result ≤ length (now (at-loop .before .before .args .s)) = search list-within in
+    omega arith)
     (λ c. (search list-within, search list-on))
     (λ c. search list-end)

@@ -32,7 +32,12 @@ find-spec =
     (λ c. search search-here)
     (λ c κs. search needs)
     (λ c. search search-past)
-    (λ c. let l = c .before .before .before .before .before .before .before .loop in let within : l .at + c .before .before .before .attribute-size .result ≤ length (now (c .before .before .before .before .before .before .before .before .before .args .s)) = search search-within in omega arith)
+    (λ c.
+    let sized = c .before .before .before in
+    let here = sized .before .before in
+    let at-loop = here .before .before in
+    let within : at-loop .loop .at + sized .attribute-size .result ≤ length (now (at-loop .before .before .args .s)) = search search-within in
+    omega arith)
     (λ c. search needs)
     (λ c. omega arith)
     (λ c. search search-on)

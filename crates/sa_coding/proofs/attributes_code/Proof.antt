@@ -30,7 +30,12 @@ attributes-code-spec =
     (λ c κs. search needs)
     (λ c. search attributes-refused)
     (λ c κs. search needs)
-    (λ c. let l = c .before .before .before .before .before .before .before .loop in let within : l .at + c .attribute-size .result ≤ length (now (c .before .before .before .before .before .before .before .before .before .args .s)) = search attributes-within in omega arith)
+    (λ c.
+    let cut = c .before .before .before in
+    let here = cut .before in
+    let at-loop = here .before .before .before in
+    let within : at-loop .loop .at + c .attribute-size .result ≤ length (now (at-loop .before .before .args .s)) = search attributes-within in
+    omega arith)
     (λ c. search needs)
     (λ c. omega arith)
     (λ c. search attributes-on)

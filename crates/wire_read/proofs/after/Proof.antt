@@ -15,5 +15,8 @@ after-spec =
     (λ c. search needs)
     (λ c. search needs)
     (λ c. search needs)
-    (λ c. let a = c .before .before .args in let whole : length (drop (a .n) (now (a .s))) ≤ length (now (a .s)) - a .n = simp length-drop (omega arith) in rw take-all)
+    (λ c.
+    let a = c .before .before .args in
+    let whole : length (drop (a .n) (now (a .s))) ≤ length (now (a .s)) - a .n = simp length-drop (omega arith) in
+    rw take-all)
     (λ c. let a = c .before .before .args in let past : length (now (a .s)) ≤ a .n = omega arith in rw drop-of-length-le))
