@@ -14,7 +14,8 @@ use Rattle.sa_proposals.specs.Proposals.{offerCode}
 use Rattle.message_payload.specs.Payloads.{typeWrong, lengthOut, bodyCode, bodyOf, payloadCode}
 
 -- a payload that is not refused ends within its message, and its body is not refused
-payload-body : (exchange : ℕ) (offered : Bool) (type : ℕ) (s : List ℕ) → payloadCode exchange offered type s ≡ 0 → (numberAt 2 s 2 ≤ length s) × (bodyCode exchange offered type (bodyOf s) ≡ 0)
+payload-body : (exchange : ℕ) (offered : Bool) (type : ℕ) (s : List ℕ) → payloadCode exchange offered type s ≡ 0 →
+    (numberAt 2 s 2 ≤ length s) × (bodyCode exchange offered type (bodyOf s) ≡ 0)
 unfolding payloadCode lengthOut
 payload-body exchange offered type s h =
     let allowed = passed (typeWrong exchange type) 1 _ (λ z. omega arith) h in
@@ -31,11 +32,13 @@ offer-body : (exchange : ℕ) (offered : Bool) (type : ℕ) (body : List ℕ) �
 unfolding bodyCode
 offer-body exchange offered type body e h = passed offered 15 (offerCode exchange body) (λ z. omega arith) (rw e at h) .1
 
-pub payload-offer : (exchange : ℕ) (offered : Bool) (type : ℕ) (s : List ℕ) → payloadCode exchange offered type s ≡ 0 → type ≡ 1 → offerCode exchange (bodyOf s) ≡ 0
+pub payload-offer : (exchange : ℕ) (offered : Bool) (type : ℕ) (s : List ℕ) → payloadCode exchange offered type s ≡ 0 → type ≡ 1 →
+    offerCode exchange (bodyOf s) ≡ 0
 payload-offer exchange offered type s h e = offer-body exchange offered type (bodyOf s) e (payload-body exchange offered type s h .1)
 
 -- the SA payload at the front of s passes where its body reads
-pub sa-payload : (exchange : ℕ) (s : List ℕ) → (exchange ≡ 5 → ⊥) → getD s 1 0 ≡ 0 → 4 ≤ numberAt 2 s 2 → numberAt 2 s 2 ≤ length s → offerCode exchange (bodyOf s) ≡ 0 → payloadCode exchange false 1 s ≡ 0
+pub sa-payload : (exchange : ℕ) (s : List ℕ) → (exchange ≡ 5 → ⊥) → getD s 1 0 ≡ 0 → 4 ≤ numberAt 2 s 2 → numberAt 2 s 2 ≤ length s →
+    offerCode exchange (bodyOf s) ≡ 0 → payloadCode exchange false 1 s ≡ 0
 unfolding payloadCode typeWrong lengthOut bodyCode
 sa-payload exchange s other reserved long within reads =
     rw (ne-eqb exchange 5 other, le-ltb (length s) 4 (omega arith), reserved, le-ltb (numberAt 2 s 2) 4 long, le-ltb (length s) (numberAt 2 s 2) within) reads

@@ -61,7 +61,8 @@ module _ (exchange : ℕ) (offered : Bool) (type : ℕ) (s : List ℕ) (w : Bool
         unfolding payloadCode
         payload-length h = rw (← ew, allowed, le-ltb (length s) 4 long, ← er, zeroed, ← eo, h)
 
-        pub payload-body : o ≡ false → (body : List ℕ) (r : ℕ) → body ≡ bodyOf s → r ≡ bodyCode exchange offered type body → r ≡ payloadCode exchange offered type s
+        pub payload-body : o ≡ false → (body : List ℕ) (r : ℕ) → body ≡ bodyOf s → r ≡ bodyCode exchange offered type body →
+            r ≡ payloadCode exchange offered type s
         unfolding payloadCode
         payload-body h body r eb e = rw (← ew, allowed, le-ltb (length s) 4 long, ← er, zeroed, ← eo, h, ← eb) e
 

@@ -11,9 +11,11 @@ use Rattle.policy_lines.specs.Lines.{mainCount, quickCount, bookSize, mainSecon
 use Rattle.policy_book.specs.declared.Book.{Book}
 use Rattle.policy_book.specs.declared.Book.the-variants.{Refused, Lawful}
 
+-- "four-byte longest seconds, 1 to 86,400"
 unfoldable pub mainLineLawful : (i : ℕ) (book : Bytes) → Bool
 mainLineLawful i book = leb 1 (mainSeconds i book) && leb (mainSeconds i book) 86400
 
+-- "protocols: 1 ESP alone, 2 AH with ESP; mode 1 to 4; four-byte seconds, 1 to 3,600"
 unfoldable pub quickLineLawful : (i : ℕ) (book : Bytes) → Bool
 quickLineLawful i book =
     leb 1 (quickProtocols i book) && leb (quickProtocols i book) 2 && leb 1 (quickMode i book) && leb (quickMode i book) 4
@@ -28,7 +30,7 @@ unfoldable pub quickLinesLawful : (n : ℕ) (book : Bytes) → Bool
 quickLinesLawful zero book = true
 quickLinesLawful (suc n) book = quickLinesLawful n book && quickLineLawful n book
 
--- a lawful book stands at the front of s
+-- "a count byte 0 to 8, that many main lines ..; a count byte 0 to 8, that many quick lines": a lawful book stands at the front of s
 unfoldable pub bookInFront : (s : Bytes) → Bool
 bookInFront s =
     leb (mainCount s) 8 && leb (quickCount s) 8 && leb 1 (length s) && leb (bookSize s) (length s)

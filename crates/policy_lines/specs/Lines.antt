@@ -20,7 +20,8 @@ bookSize book = quickStart book + 1 + 6 * quickCount book
 unfoldable pub mainSeconds : (i : ℕ) (book : Bytes) → ℕ
 mainSeconds i book = numberAt 4 book (1 + 4 * i)
 
--- "quick lines (protocols: 1 ESP alone, 2 AH with ESP; mode 1 to 4; four-byte seconds, 1 to 3,600)": the bytes of line i
+-- "quick lines (protocols: 1 ESP alone, 2 AH with ESP; mode 1 to 4; four-byte seconds, 1 to 3,600)": where line i begins, counted from 0,
+-- and what it says
 unfoldable pub quickAt : (i : ℕ) (book : Bytes) → ℕ
 quickAt i book = quickStart book + 1 + 6 * i
 

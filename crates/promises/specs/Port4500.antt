@@ -67,7 +67,11 @@ key-exchange-handed s start n = of (says s)
     of (behind m) h =
         let at : 4 ≡ start = cc in
         let size : length s - 4 ≡ n = cc in
-        record { marked = sym (ap (λ (l : List ℕ). l ++ drop 4 s) (sym m) ∙ take-append-drop 4 s); lies = ap (λ (k : ℕ). drop k s) at; long = length-drop 4 s ∙ size }
+        record {
+          marked = sym (ap (λ (l : List ℕ). l ++ drop 4 s) (sym m) ∙ take-append-drop 4 s);
+          lies = ap (λ (k : ℕ). drop k s) at;
+          long = length-drop 4 s ∙ size;
+        }
     of esp h = never (cc)
 
 -- an ESP packet is handed on whole
