@@ -19,16 +19,9 @@ use Rattle.message_header.specs.Header.{exchangeOf, flagsOf, firstPayload, head
 use Rattle.message_header.proofs.Laws.{header-long}
 use Rattle.message_payload.proofs.Laws.{payload-within, payload-offer, sa-payload, body-whole}
 use Rattle.message_payload.specs.Payloads.{bodyOf, payloadCode, restCode}
-use Rattle.message_chain.specs.Message.{Reading, refused, payloads, inFront, chain, reading, exchangeAndCount, message, walk}
+use Rattle.message_chain.specs.Message.{Reading, refused, payloads, inFront, chain, reading, nth, exchangeAndCount, message, walk}
 use Rattle.message_chain.specs.declared.Payload.{Payload}
 use Rattle.message_chain.specs.declared.Message.the-variants.{Read}
-
-abbrev nowhere : Payload
-nowhere = record { payloadtype = 0; start = 0; length = 0 }
-
--- payload j of a reading
-abbrev pub nth : List Payload → ℕ → Payload
-nth ps j = getD ps j nowhere
 
 -- ---- the walk
 
@@ -63,7 +56,8 @@ none-found exchange left m type start = record {
 }
 
 -- one payload more, in front
-module _ (exchange left : ℕ) (m : List ℕ) (type start : ℕ) (ps : List Payload) (h : start ≤ length m) (fits : numberAt 2 (drop start m) 2 ≤ length (drop start m)) (offer : type ≡ 1 → offerCode exchange (bodyOf (drop start m)) ≡ 0) where
+module _ (exchange left : ℕ) (m : List ℕ) (type start : ℕ) (ps : List Payload) (h : start ≤ length m)
+    (fits : numberAt 2 (drop start m) 2 ≤ length (drop start m)) (offer : type ≡ 1 → offerCode exchange (bodyOf (drop start m)) ≡ 0) where
   abbrev all : List Payload
   all = record { payloadtype = type; start = start; length = numberAt 2 (drop start m) 2 } ∷ ps
 
@@ -106,21 +100,35 @@ by-end true wrong next number qs e f g = f e
 by-end false true next number qs e f g = nothing number qs e
 by-end false false next number qs e f g = g (sym (same e))
 
-module _ (left exchange flags : ℕ) (m : List ℕ) (again : (offered : Bool) (type start : ℕ) (qs : List Payload) → start ≤ length m → chain left exchange flags offered type start (drop start m) ≡ payloads qs → Found exchange left m type start qs) (offered : Bool) (type start : ℕ) (h : start ≤ length m) (fine : payloadCode exchange offered type (drop start m) ≡ 0) where
-  fits : numberAt 2 (drop start m) 2 ≤ length (drop start m)
-  fits = payload-within exchange offered type (drop start m) fine
+module _ (left exchange flags : ℕ) (m : List ℕ)
+    (again : (offered : Bool) (type start : ℕ) (qs : List Payload) → start ≤ length m →
+    chain left exchange flags offered type start (drop start m) ≡ payloads qs → Found exchange left m type start qs)
+    (offered : Bool) (type start : ℕ) (h : start ≤ length m) (fine : payloadCode exchange offered type (drop start m) ≡ 0) where
+  -- where the payload begins, and how long it says it is
+  abbrev here : List ℕ
+  here = drop start m
+
+  abbrev size : ℕ
+  size = numberAt 2 here 2
+
+  -- what follows it: its bytes, and the chain in them
+  abbrev rest : List ℕ
+  rest = drop size here
+
+  abbrev following : Reading
+  following = chain left exchange flags (offered || eqb type 1) (getD here 0 0) (start + size) rest
+
+  fits : size ≤ length here
+  fits = payload-within exchange offered type here fine
 
   next-found : (qs : List Payload) →
-      (if not (eqb (getD (drop start m) 0 0) 0)
-      then chain left exchange flags (offered || eqb type 1) (getD (drop start m) 0 0) (start + numberAt 2 (drop start m) 2) (drop (numberAt 2 (drop start m) 2) (drop start m))
-      else if not (eqb (restCode flags (drop (numberAt 2 (drop start m) 2) (drop start m))) 0) then refused (restCode flags (drop (numberAt 2 (drop start m) 2) (drop start m)))
-      else payloads []) ≡ payloads qs → Found exchange left m (getD (drop start m) 0 0) (start + numberAt 2 (drop start m) 2) qs
+      (if not (eqb (getD here 0 0) 0) then following
+      else if not (eqb (restCode flags rest) 0) then refused (restCode flags rest)
+      else payloads []) ≡ payloads qs → Found exchange left m (getD here 0 0) (start + size) qs
   next-found qs e =
-      by-end (not (eqb (getD (drop start m) 0 0) 0)) (not (eqb (restCode flags (drop (numberAt 2 (drop start m) 2) (drop start m))) 0))
-      (chain left exchange flags (offered || eqb type 1) (getD (drop start m) 0 0) (start + numberAt 2 (drop start m) 2) (drop (numberAt 2 (drop start m) 2) (drop start m)))
-      (restCode flags (drop (numberAt 2 (drop start m) 2) (drop start m))) qs e
-      (λ v. again (offered || eqb type 1) (getD (drop start m) 0 0) (start + numberAt 2 (drop start m) 2) qs (omega (arith, fits, length-drop start m)) (rw drop-drop at v))
-      (λ none. rw none (none-found exchange left m (getD (drop start m) 0 0) (start + numberAt 2 (drop start m) 2)))
+      by-end (not (eqb (getD here 0 0) 0)) (not (eqb (restCode flags rest) 0)) following (restCode flags rest) qs e
+      (λ v. again (offered || eqb type 1) (getD here 0 0) (start + size) qs (omega (arith, fits, length-drop start m)) (rw drop-drop at v))
+      (λ none. rw none (none-found exchange left m (getD here 0 0) (start + size)))
 
 cons-some : (ps : List Payload) (p : Payload) (qs : List Payload) → ps ≡ p ∷ qs → 0 < length ps
 cons-some ps p qs e = rw e (omega arith)
@@ -138,11 +146,16 @@ found (suc left) exchange flags offered type start m ps h e =
     let fine = eqb-true code 0 (not-false (eqb code 0) w) in
     let (qs, eq, ep) = first-found _ _ ps v in
     let after = next-found left exchange flags m (λ a t i rs g f. found left exchange flags a t i m rs g f .0) offered type start h fine qs eq in
-    (rw ep (more-found exchange left m type start qs h (payload-within exchange offered type (drop start m) fine) (payload-offer exchange offered type (drop start m) fine) after), cons-some ps _ qs ep))
+    let within = payload-within exchange offered type (drop start m) fine in
+    let offer = payload-offer exchange offered type (drop start m) fine in
+    (rw ep (more-found exchange left m type start qs h within offer after), cons-some ps _ qs ep))
 
 pub reading-header : (m : List ℕ) (ps : List Payload) → reading m ≡ payloads ps → headerCode m ≡ 0
 unfolding reading
-reading-header m ps e = by-pick (not (eqb (headerCode m) 0)) (refused (headerCode m)) _ _ e (λ w v. nothing _ ps v) (λ w v. eqb-true (headerCode m) 0 (not-false (eqb (headerCode m) 0) w))
+reading-header m ps e =
+    by-pick (not (eqb (headerCode m) 0)) (refused (headerCode m)) _ _ e
+    (λ w v. nothing _ ps v)
+    (λ w v. eqb-true (headerCode m) 0 (not-false (eqb (headerCode m) 0) w))
 
 pub reading-found : (m : List ℕ) (ps : List Payload) → reading m ≡ payloads ps → Found (exchangeOf m) 32 m (firstPayload m) 28 ps × (0 < length ps)
 unfolding reading
@@ -179,12 +192,15 @@ read-as m exchange count h = read-of m exchange count (reading m) refl h
 
 -- ---- a message of one SA payload
 
-one-chain : (left exchange : ℕ) (s : List ℕ) → payloadCode exchange false 1 s ≡ 0 → getD s 0 0 ≡ 0 → numberAt 2 s 2 ≡ length s → (start : ℕ) → exchangeAndCount exchange 0 (chain (suc left) exchange 0 false 1 start s) ≡ Read exchange 1
+one-chain : (left exchange : ℕ) (s : List ℕ) → payloadCode exchange false 1 s ≡ 0 → getD s 0 0 ≡ 0 → numberAt 2 s 2 ≡ length s → (start : ℕ) →
+    exchangeAndCount exchange 0 (chain (suc left) exchange 0 false 1 start s) ≡ Read exchange 1
 unfolding chain inFront exchangeAndCount restCode
 one-chain left exchange s fine last lies start = rw (fine, last, lies, drop-length s)
 
 -- a header, and behind it one SA payload whose body reads
-pub one-sa-reads : (m : List ℕ) → headerCode m ≡ 0 → firstPayload m ≡ 1 → flagsOf m ≡ 0 → (exchangeOf m ≡ 5 → ⊥) → 4 ≤ length (drop 28 m) → getD (drop 28 m) 0 0 ≡ 0 → getD (drop 28 m) 1 0 ≡ 0 → numberAt 2 (drop 28 m) 2 ≡ length (drop 28 m) → offerCode (exchangeOf m) (drop 4 (drop 28 m)) ≡ 0 → message m ≡ Read (exchangeOf m) 1
+pub one-sa-reads : (m : List ℕ) → headerCode m ≡ 0 → firstPayload m ≡ 1 → flagsOf m ≡ 0 → (exchangeOf m ≡ 5 → ⊥) → 4 ≤ length (drop 28 m) →
+    getD (drop 28 m) 0 0 ≡ 0 → getD (drop 28 m) 1 0 ≡ 0 → numberAt 2 (drop 28 m) 2 ≡ length (drop 28 m) →
+    offerCode (exchangeOf m) (drop 4 (drop 28 m)) ≡ 0 → message m ≡ Read (exchangeOf m) 1
 unfolding message reading
 one-sa-reads m header first flags other long last reserved lies reads =
     let s : List ℕ = drop 28 m in

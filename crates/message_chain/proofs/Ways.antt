@@ -20,7 +20,8 @@ use Rattle.message_chain.specs.declared.Message.the-variants.{Refused, R
 
 -- ---- the chain
 
-count-if : (exchange n : ℕ) (t : Bool) (r q : Reading) → exchangeAndCount exchange n (if t then r else q) ≡ (if t then exchangeAndCount exchange n r else exchangeAndCount exchange n q)
+count-if : (exchange n : ℕ) (t : Bool) (r q : Reading) →
+    exchangeAndCount exchange n (if t then r else q) ≡ (if t then exchangeAndCount exchange n r else exchangeAndCount exchange n q)
 count-if exchange n true r q = refl
 count-if exchange n false r q = refl
 
@@ -30,7 +31,8 @@ module _ (exchange flags : ℕ) where
       exchangeAndCount exchange n (chain left exchange flags offered type start s)
       ≡ (if not (eqb (payloadCode exchange offered type s) 0) then Refused (payloadCode exchange offered type s)
       else if not (eqb (getD s 0 0) 0)
-      then exchangeAndCount exchange (n + 1) (chain (left - 1) exchange flags (offered || eqb type 1) (getD s 0 0) (start + numberAt 2 s 2) (drop (numberAt 2 s 2) s))
+      then exchangeAndCount exchange (n + 1)
+      (chain (left - 1) exchange flags (offered || eqb type 1) (getD s 0 0) (start + numberAt 2 s 2) (drop (numberAt 2 s 2) s))
       else if not (eqb (restCode flags (drop (numberAt 2 s 2) s)) 0) then Refused (restCode flags (drop (numberAt 2 s 2) s))
       else Read exchange (n + 1))
   unfolding chain exchangeAndCount
@@ -40,7 +42,8 @@ module _ (exchange flags : ℕ) where
       let one : n + 1 + 0 ≡ n + 1 = omega arith in
       rw (i, count-if, count-more, count-if, count-if, one)
 
-  none-start : (n : ℕ) (offered : Bool) (type i j : ℕ) (s : List ℕ) → exchangeAndCount exchange n (chain 0 exchange flags offered type i s) ≡ exchangeAndCount exchange n (chain 0 exchange flags offered type j s)
+  none-start : (n : ℕ) (offered : Bool) (type i j : ℕ) (s : List ℕ) →
+      exchangeAndCount exchange n (chain 0 exchange flags offered type i s) ≡ exchangeAndCount exchange n (chain 0 exchange flags offered type j s)
   unfolding chain
   none-start n offered type i j s = refl
 
@@ -63,7 +66,8 @@ module _ (left exchange flags : ℕ) (offered : Bool) (type : ℕ) (s : List ℕ
     chain-refused h = rw (chain-step exchange flags (32 - left) left offered type 0 s may, ← ec, ne-eqb code 0 h)
 
     module _ (fine : code ≡ 0) (next n : ℕ) (rest : List ℕ) (ex : next ≡ getD s 0 0) (el : n ≡ numberAt 2 s 2) (er : rest ≡ drop n s) where
-      pub chain-on : (next ≡ 0 → ⊥) → (r : Message) → r ≡ exchangeAndCount exchange (32 - (left - 1)) (chain (left - 1) exchange flags (offered || eqb type 1) next 0 rest) →
+      pub chain-on : (next ≡ 0 → ⊥) → (r : Message) →
+          r ≡ exchangeAndCount exchange (32 - (left - 1)) (chain (left - 1) exchange flags (offered || eqb type 1) next 0 rest) →
           r ≡ exchangeAndCount exchange (32 - left) (chain left exchange flags offered type 0 s)
       chain-on h r e =
           let one : 32 - left + 1 ≡ 32 - (left - 1) = omega arith in
@@ -86,7 +90,8 @@ module _ (m : List ℕ) (code : ℕ) (ec : code ≡ headerCode m) where
   unfolding message reading exchangeAndCount
   read-refused h = rw (← ec, ne-eqb code 0 h)
 
-  pub read-chain : code ≡ 0 → (exchange flags type : ℕ) (rest : List ℕ) (r : Message) → exchange ≡ getD m 18 0 → flags ≡ getD m 19 0 → type ≡ getD m 16 0 → rest ≡ drop 28 m →
+  pub read-chain : code ≡ 0 → (exchange flags type : ℕ) (rest : List ℕ) (r : Message) → exchange ≡ getD m 18 0 → flags ≡ getD m 19 0 →
+      type ≡ getD m 16 0 → rest ≡ drop 28 m →
       r ≡ exchangeAndCount exchange (32 - 32) (chain 32 exchange flags false type 0 rest) → r ≡ message m
   unfolding message reading
   read-chain h exchange flags type rest r ex ef et er e =

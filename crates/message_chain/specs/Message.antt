@@ -2,7 +2,7 @@
 use Prim.Native.Nat.{ℕ, zero, suc, _+_}
 use mathlib.Core.List.{List, [], _∷_}
 use mathlib.Core.Bool.{Bool, false, not, _||_}
-use lib.ListN.{length, drop}
+use lib.ListN.{length, getD, drop}
 use lib.Dec.{eqb}
 use Rattle.wire_read.specs.Wire.{Bytes, nextField, lengthField, nextAt, lengthAt}
 use Rattle.wire_read.specs.Tests.{if_then_else_}
@@ -18,6 +18,13 @@ use Rattle.message_chain.specs.declared.Message.the-variants.{Refused, R
 pub data Reading : Type 0 where
   refused : ℕ → Reading
   payloads : List Payload → Reading
+
+-- payload j of those that were found, counted from 0
+abbrev nowhere : Payload
+nowhere = record { payloadtype = 0; start = 0; length = 0 }
+
+abbrev pub nth : (ps : List Payload) (j : ℕ) → Payload
+nth ps j = getD ps j nowhere
 
 -- a payload, and then what is found behind it
 unfoldable pub inFront : (p : Payload) (reading : Reading) → Reading

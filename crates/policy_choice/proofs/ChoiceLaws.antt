@@ -13,15 +13,21 @@ use Rattle.wire_read.proofs.Laws.{number-drop}
 use Rattle.sa_proposals.specs.Proposals.{offerCode}
 use Rattle.sa_fields.specs.Fields.{proposalNumber}
 use Rattle.sa_sets.specs.Sets.{set, setCount, setNumbered}
-use Rattle.sa_items.specs.Items.{proposal}
+use Rattle.sa_items.specs.Items.{proposal, transformNumbered}
 use Rattle.sa_fields.specs.declared.ProposalNumber.{ProposalNumber}
+use Rattle.sa_proposals.proofs.Laws.{Item}
+use Rattle.sa_items.proofs.Laws.{transform-by-number}
 use Rattle.sa_sets.proofs.Places.{LawfulSet, set-lawful, set-by-number}
 use Rattle.message_header.specs.Header.{exchangeOf, firstPayload}
 use Rattle.message_payload.specs.Payloads.{bodyOf}
-use Rattle.message_chain.specs.Message.{message, walk, payloadAt}
+use Rattle.message_chain.specs.Message.{message, nth, walk, payloadAt}
 use Rattle.message_chain.specs.declared.Payload.{Payload}
 use Rattle.message_chain.specs.declared.Message.the-variants as read
-use Rattle.message_chain.proofs.Laws.{nth, reading-found, read-as}
+use Rattle.message_chain.proofs.Laws.{reading-found, read-as}
+use Rattle.policy_suits.specs.Suits.{lowest}
+use Rattle.policy_suits.specs.Suiting.{HasTransform, Suits}
+use Rattle.policy_suits.proofs.Laws.{suits-says}
+use Rattle.policy_suits.proofs.SuitLaws.{chosenIn, taken}
 use Rattle.policy_book.specs.Book.{bookRead}
 use Rattle.policy_book.specs.declared.Book.{Book}
 use Rattle.policy_book.specs.declared.Book.the-variants as books
@@ -29,8 +35,8 @@ use Rattle.policy_choice.specs.declared.LineNumber.{LineNumber}
 use Rattle.policy_choice.specs.declared.Choice.{Choice}
 use Rattle.policy_choice.specs.declared.Choice.the-variants.{Refused, Chosen}
 use Rattle.policy_choice.specs.declared.Transforms.{Transforms}
-use Rattle.policy_choice.specs.Choice.{transformsOf, chosen, chooseFrom, lineCount, bodyAt, saFrom, messageChoice, bookChoice, choice}
-use Rattle.policy_choice.proofs.Laws.{Choosing, fourteen, chose, choosing, Suits, suits-says}
+use Rattle.policy_choice.specs.Choice.{numberOf, transformsOf, chosen, chooseFrom, lineCount, bodyAt, saFrom, messageChoice, bookChoice, choice}
+use Rattle.policy_choice.proofs.Laws.{Choosing, fourteen, chose, choosing}
 
 -- ---- the SA payload of a message that reads
 
@@ -48,7 +54,9 @@ module _ (m : List ℕ) where
   sa-place (suc n) k some =
       by-test (eqb (payloadAt k m .payloadtype) 1)
       (λ e. record { j = k; below = omega arith; payloadtype = eqb-true _ _ e; body = rw e })
-      (λ e. let r = sa-place n (k + 1) (λ z. some (rw e z)) in record { j = r .j; below = omega (arith, r .below); payloadtype = r .payloadtype; body = rw e (r .body) })
+      (λ e.
+      let r = sa-place n (k + 1) (λ z. some (rw e z)) in
+      record { j = r .j; below = omega (arith, r .below); payloadtype = r .payloadtype; body = rw e (r .body) })
 
   -- once it is found, more payloads to look through change nothing
   sa-more : (n d k : ℕ) → (length (saFrom n k m) ≡ 0 → ⊥) → saFrom (n + d) k m ≡ saFrom n k m
@@ -70,7 +78,8 @@ module _ (m : List ℕ) where
         let payloadtype : nth (r .found) (p .j) .payloadtype ≡ 1 = ap (λ (x : Payload). x .payloadtype) (sym walked) ∙ p .payloadtype in
         let s : List ℕ = drop (nth (r .found) (p .j) .start) m in
         let body : bodyAt (p .j) m ≡ drop 4 (take (numberAt 2 s 2) s) = rw (walked, f .measured (p .j) below) in
-        ap (λ (x : ℕ). offerCode x (saFrom count 0 m)) (sym (r .same-exchange)) ∙ ap (offerCode (exchangeOf m)) (p .body ∙ body) ∙ f .offers (p .j) below payloadtype
+        ap (λ (x : ℕ). offerCode x (saFrom count 0 m)) (sym (r .same-exchange)) ∙ ap (offerCode (exchangeOf m)) (p .body ∙ body)
+        ∙ f .offers (p .j) below payloadtype
 
     -- "a message has at most 32 payloads"
     pub sa-same : saFrom 32 0 m ≡ saFrom count 0 m
@@ -89,6 +98,13 @@ sa-in-front m first lies =
 
 -- ---- a choice
 
+-- the number that names the lowest transform finds it
+pub taken-by-number : (exchange i : ℕ) (book p : List ℕ) → Item exchange p → HasTransform exchange i book p →
+    transformNumbered (numberOf (lowest exchange i book p) p) p ≡ chosenIn exchange i book p
+unfolding numberOf
+taken-by-number exchange i book p item some =
+    transform-by-number exchange p item (lowest exchange i book p - 1) (taken exchange i book p item some .0)
+
 -- what was chosen in a message that reads: set k and line i, counted from 0; the number of the set finds it
 pub record Chose (exchange count : ℕ) (book m : List ℕ) (number : ProposalNumber) (line : LineNumber) (transforms : Transforms) : Type 0 where
   pub k : ℕ
@@ -104,13 +120,15 @@ pub record Chose (exchange count : ℕ) (book m : List ℕ) (number : ProposalNu
   pub its-line : line .0 ≡ i + 1
   pub taken : transforms ≡ transformsOf exchange i book (set k (saFrom count 0 m))
 
-module _ (exchange count : ℕ) (book m : List ℕ) (readable : message m ≡ read.Read exchange count) (number : ProposalNumber) (line : LineNumber) (transforms : Transforms) where
+module _ (exchange count : ℕ) (book m : List ℕ) (readable : message m ≡ read.Read exchange count) (number : ProposalNumber) (line : LineNumber)
+    (transforms : Transforms) where
   from-book : (b : Book) → bookChoice book m b ≡ Chosen number line transforms → messageChoice book m (read.Read exchange count) ≡ Chosen number line transforms
   unfolding bookChoice
   from-book (books.Refused n) e = never (cc)
   from-book (books.Lawful main quick) e = rw readable at e
 
-  from-message : messageChoice book m (read.Read exchange count) ≡ Chosen number line transforms → (length (saFrom count 0 m) ≡ 0 → ⊥) × (chooseFrom exchange book (saFrom count 0 m) ≡ Chosen number line transforms)
+  from-message : messageChoice book m (read.Read exchange count) ≡ Chosen number line transforms →
+      (length (saFrom count 0 m) ≡ 0 → ⊥) × (chooseFrom exchange book (saFrom count 0 m) ≡ Chosen number line transforms)
   unfolding messageChoice
   from-message e =
       by-test (eqb (length (saFrom count 0 m)) 0)
@@ -118,7 +136,8 @@ module _ (exchange count : ℕ) (book m : List ℕ) (readable : message m ≡ re
       (λ z. (eqb-false _ _ z, rw z at e))
 
   module _ (some : length (saFrom count 0 m) ≡ 0 → ⊥) where
-    from-sets : {n : ℕ} {r : Choice} → Choosing exchange book (saFrom count 0 m) n 0 r → n ≡ setCount (saFrom count 0 m) → r ≡ Chosen number line transforms → Chose exchange count book m number line transforms
+    from-sets : {n : ℕ} {r : Choice} → Choosing exchange book (saFrom count 0 m) n 0 r → n ≡ setCount (saFrom count 0 m) →
+        r ≡ Chosen number line transforms → Chose exchange count book m number line transforms
     unfolding chosen
     from-sets (fourteen f) q e = never (cc)
     from-sets (chose j i h l b t f g) q e =

@@ -57,7 +57,8 @@ module _ (n i exchange : ℕ) (book s : List ℕ) where
 
 -- ---- transforms
 
-module _ (exchange i : ℕ) (book s p : List ℕ) (low : ℕ) (first : TransformNumber) (count : ℕ) (ep : p ≡ proposal 0 s) (el : low ≡ lowest exchange i book p) (ef : first ≡ numberOf low p) (ec : count ≡ proposalCount s) where
+module _ (exchange i : ℕ) (book s p : List ℕ) (low : ℕ) (first : TransformNumber) (count : ℕ) (ep : p ≡ proposal 0 s)
+    (el : low ≡ lowest exchange i book p) (ef : first ≡ numberOf low p) (ec : count ≡ proposalCount s) where
   is : numberOf (lowest exchange i book (proposal 0 s)) (proposal 0 s) ≡ first
   is = cc
 
@@ -65,7 +66,8 @@ module _ (exchange i : ℕ) (book s p : List ℕ) (low : ℕ) (first : Transform
   unfolding transformsOf
   transforms-one h = rw (← ec, eq-eqb count 1 h, is)
 
-  pub transforms-two : (count ≡ 1 → ⊥) → (q : List ℕ) (low2 : ℕ) (second : TransformNumber) → q ≡ proposal 1 s → low2 ≡ lowest exchange i book q → second ≡ numberOf low2 q → Two first second ≡ transformsOf exchange i book s
+  pub transforms-two : (count ≡ 1 → ⊥) → (q : List ℕ) (low2 : ℕ) (second : TransformNumber) → q ≡ proposal 1 s → low2 ≡ lowest exchange i book q →
+      second ≡ numberOf low2 q → Two first second ≡ transformsOf exchange i book s
   unfolding transformsOf
   transforms-two h q low2 second eq el2 es =
       let is2 : numberOf (lowest exchange i book (proposal 1 s)) (proposal 1 s) ≡ second = cc in

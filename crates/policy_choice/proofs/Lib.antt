@@ -1,4 +1,3 @@
 pub mod Laws
-pub mod SuitLaws
 pub mod ChoiceLaws
 mod ChoiceWays

@@ -24,10 +24,11 @@ use Rattle.policy_choice.specs.declared.Transforms.the-variants.{One, Tw
 use Rattle.policy_choice.specs.declared.Choice.{Choice}
 use Rattle.policy_choice.specs.declared.Choice.the-variants.{Refused, Chosen}
 
+-- how many lines the book has for an exchange
 unfoldable pub lineCount : (exchange : ℕ) (book : Bytes) → ℕ
 lineCount exchange book = if eqb exchange 2 then mainCount book else quickCount book
 
--- "first line": counted from 1 among the n from i on; 0 where none suits
+-- "first line" that the set s suits: counted from 1 among the n from i on; 0 where there is none
 unfoldable pub lineFrom : (n i exchange : ℕ) (book s : Bytes) → ℕ
 lineFrom zero i exchange book s = 0
 lineFrom (suc n) i exchange book s = if setSuits exchange i book s then i + 1 else lineFrom n (i + 1) exchange book s
@@ -35,16 +36,17 @@ lineFrom (suc n) i exchange book s = if setSuits exchange i book s then i + 1 el
 unfoldable pub firstLine : (exchange : ℕ) (book s : Bytes) → ℕ
 firstLine exchange book s = lineFrom (lineCount exchange book) 0 exchange book s
 
--- the transform with this count from 1, by its own number
+-- the number of transform k of a proposal, counted from 1
 unfoldable pub numberOf : (k : ℕ) (p : Bytes) → TransformNumber
 numberOf k p = transformNumber (transform (k - 1) p)
 
--- "then lowest transform in each proposal", in the offer's order
+-- "then lowest transform in each proposal" of the set s, in the offer's order
 unfoldable pub transformsOf : (exchange i : ℕ) (book s : Bytes) → Transforms
 transformsOf exchange i book s =
     if eqb (proposalCount s) 1 then One (numberOf (lowest exchange i book (proposal 0 s)) (proposal 0 s))
     else Two (numberOf (lowest exchange i book (proposal 0 s)) (proposal 0 s)) (numberOf (lowest exchange i book (proposal 1 s)) (proposal 1 s))
 
+-- what is answered where the set s is chosen by this line, counted from 1
 unfoldable pub chosen : (exchange line : ℕ) (book s : Bytes) → Choice
 chosen exchange line book s = Chosen (proposalNumber (proposal 0 s)) (record { 0 = line }) (transformsOf exchange (line - 1) book s)
 

@@ -17,7 +17,8 @@ use Rattle.wire_read.proofs.Laws.{number-agree}
 use Rattle.wire_write.proofs.Laws.{number-bytesOf, length-bytesOf, length-headed, headed-lies}
 use Rattle.sa_proposals.specs.Proposals.{protocolWrong, transformBytes, proposalsCode, offerCode}
 use Rattle.sa_proposals.specs.Proposals as proposals
-use Rattle.sa_proposals.proofs.Laws.{Item, Rising, end, on, LawfulTransform}
+use Rattle.sa_proposals.proofs.Laws.{Item, Rising, end, on}
+use Rattle.sa_transforms.proofs.Laws.{LawfulTransform}
 use Rattle.sa_proposals.proofs.Written.{proposed, Keyed, unkeyed, keyed, Writes, alone-transforms, order-first, proposed-lawful, one-reads, two-read, offer-right}
 use Rattle.sa_fields.specs.Fields.{proposalNumber, protocol, spi, transformCount}
 use Rattle.wire_read.specs.Parts.{skip}
@@ -26,7 +27,8 @@ use Rattle.sa_sets.specs.Sets.{set, setCount, setNumbered}
 use Rattle.sa_fields.specs.declared.ProposalNumber.{ProposalNumber}
 use Rattle.sa_fields.specs.declared.TransformNumber.{TransformNumber}
 use Rattle.sa_sets.proofs.Laws.{Same, same-end, same-on}
-use Rattle.sa_sets.proofs.Places.{LawfulSet, OneSet, one-set, transform-lawful}
+use Rattle.sa_items.proofs.Laws.{transform-lawful}
+use Rattle.sa_sets.proofs.Places.{LawfulSet, OneSet, one-set}
 use Rattle.policy_reply.specs.Reply.{ownSpi, fields, proposalOf, proposalReply, setReply, saOf, spiLow, spisLow, setReplied, choiceReplied, replied}
 use Rattle.policy_reply.specs.declared.Outcome.the-variants.{Written}
 use Rattle.policy_choice.specs.declared.LineNumber.{LineNumber}
@@ -34,10 +36,10 @@ use Rattle.policy_choice.specs.declared.Choice.the-variants.{Chosen}
 use Rattle.policy_choice.specs.declared.Transforms.{Transforms}
 use Rattle.policy_choice.specs.declared.Transforms.the-variants.{One, Two}
 use Rattle.policy_choice.specs.Choice.{numberOf, transformsOf, saFrom, choice}
-use Rattle.policy_choice.proofs.Laws.{HasTransform, Suits}
+use Rattle.policy_suits.specs.Suiting.{HasTransform, Suits}
 use Rattle.policy_suits.specs.Suits.{lowest}
-use Rattle.policy_choice.proofs.SuitLaws.{Known, isakmp, ah-of, esp-of, known-of, known-quick, suiting-short, chosenIn, taken, taken-by-number, Pair, shape}
-use Rattle.policy_choice.proofs.ChoiceLaws.{Chose}
+use Rattle.policy_suits.proofs.SuitLaws.{Known, isakmp, ah-of, esp-of, known-of, known-quick, suiting-short, chosenIn, taken, Pair, shape}
+use Rattle.policy_choice.proofs.ChoiceLaws.{Chose, taken-by-number}
 
 -- ---- a transform, repeated
 

@@ -15,7 +15,7 @@ use Rattle.sa_sets.specs.Sets.{setNumbered}
 use Rattle.sa_items.specs.Items.{proposal, transformNumbered}
 use Rattle.sa_fields.specs.declared.ProposalNumber.{ProposalNumber}
 use Rattle.sa_fields.specs.declared.TransformNumber.{TransformNumber}
-use Rattle.sa_sets.proofs.Laws.{transform-within, two-within}
+use Rattle.sa_items.proofs.Laws.{transform-within, two-within}
 use Rattle.policy_choice.specs.Choice.{saFrom, choice}
 use Rattle.policy_reply.specs.Reply.{ownSpi, fields, proposalOf, proposalReply, setReply, saOf, spiLow, spisLow, setReplied, choiceReplied, replied, choiceRefusal}
 use Rattle.policy_choice.specs.declared.LineNumber.{LineNumber}

@@ -1,39 +1,32 @@
 -- A law for each way out of the functions on what suits.
 use Prim.Native.Nat.{ℕ, zero, suc, _+_, _-_}
-use mathlib.Core.Path.{_≡_, refl, sym}
+use mathlib.Core.Path.{_≡_, refl}
 use mathlib.Core.List.{List}
 use mathlib.Core.Bool.{Bool, true, false, not, _&&_, _||_, and-false}
 use native.Mathlib.Omega.{arith}
 use native.Mathlib.Numerals.{add-one}
 use lib.ListN.{take, drop}
 use lib.Dec.{eqb, leb}
-use borrow.Author.Tests.{eq-eqb, ne-eqb, le-leb}
+use borrow.Author.Tests.{eq-eqb, ne-eqb, le-leb, not-true, not-false}
 use Rattle.wire_read.specs.Tests.{if_then_else_}
-use Rattle.wire_read.proofs.Tests.{clash}
+use Rattle.wire_read.proofs.Parts.{skip-next}
 use Rattle.wire_read.specs.Wire.{numberAt}
 use Rattle.sa_proposals.specs.Proposals.{transformBytes}
 use Rattle.sa_fields.specs.Fields.{transformId, attributesOf, protocol}
 use Rattle.wire_read.specs.Parts.{skip}
 use Rattle.sa_items.specs.Items.{firstItem, afterItem, transform, proposal, proposalCount}
 use Rattle.policy_lines.specs.Lines.{mainSeconds, quickProtocols, quickMode, quickSeconds}
-use Rattle.policy_suits.specs.Suits.{valueIs, nothingSurplus, quickId, lifeWithin, quickAuthentication, mainSuits, quickSuits, suitsLine, transformSuits, lowestFrom, lowest, protocolsAlone, protocolsBoth, protocolsSuit, setSuits}
+use Rattle.policy_suits.specs.Suits.{valueIs, nothingSurplus, quickId, lifeWithin, quickAuthentication, mainSuits, quickSuits, suitsQuickLine, suitsLine, transformSuits, lowestFrom, lowest, protocolsAlone, protocolsBoth, protocolsSuit, setSuits}
 
-pub authentication-both : (protocols protocol : ℕ) (attributes : List ℕ) (a b : Bool) → (eqb protocols 2 && eqb protocol 3) ≡ false → a ≡ valueIs 5 20 attributes → b ≡ nothingSurplus 4 attributes → (a && b) ≡ quickAuthentication protocols protocol attributes
+pub authentication-both : (protocols protocol : ℕ) (attributes : List ℕ) (a b : Bool) → (eqb protocols 2 && eqb protocol 3) ≡ false →
+    a ≡ valueIs 5 20 attributes → b ≡ nothingSurplus 4 attributes → (a && b) ≡ quickAuthentication protocols protocol attributes
 unfolding quickAuthentication
 authentication-both protocols protocol attributes a b h ea eb = rw (h, ← ea, ← eb)
-
-was-false : (b : Bool) → not b ≡ true → b ≡ false
-was-false true h = clash h
-was-false false h = refl
-
-was-true : (b : Bool) → not b ≡ false → b ≡ true
-was-true true h = refl
-was-true false h = clash (sym h)
 
 -- a transform is left at the first test that it does not pass
 module _ (i : ℕ) (book : List ℕ) (protocol : ℕ) (t : List ℕ) where
   abbrev suits : Bool
-  suits = quickSuits (quickProtocols i book) (quickMode i book) (quickSeconds i book) protocol t
+  suits = suitsQuickLine i book protocol t
 
   module _ (attributes : List ℕ) (id wanted : ℕ) (ea : attributes ≡ attributesOf t) (ei : id ≡ transformId t) (ew : wanted ≡ quickId protocol) where
     pub quick-other : (id ≡ wanted → ⊥) → false ≡ suits
@@ -43,35 +36,32 @@ module _ (i : ℕ) (book : List ℕ) (protocol : ℕ) (t : List ℕ) where
     module _ (same : id ≡ wanted) (seconds : ℕ) (es : seconds ≡ quickSeconds i book) (l : Bool) (el : l ≡ lifeWithin 2 seconds attributes) where
       pub quick-life : not l ≡ true → false ≡ suits
       unfolding quickSuits
-      quick-life h = rw (← ea, ← es, ← el, was-false l h, and-false)
+      quick-life h = rw (← ea, ← es, ← el, not-true l h, and-false)
 
       module _ (lives : not l ≡ false) (mode : ℕ) (em : mode ≡ quickMode i book) (a : Bool) (ev : a ≡ valueIs 4 mode attributes) where
         pub quick-mode : not a ≡ true → false ≡ suits
         unfolding quickSuits
-        quick-mode h = rw (← ei, ← ew, eq-eqb id wanted same, ← ea, ← em, ← ev, was-false a h)
+        quick-mode h = rw (← ei, ← ew, eq-eqb id wanted same, ← ea, ← em, ← ev, not-true a h)
 
         module _ (in-mode : not a ≡ false) (b : Bool) (eb : b ≡ valueIs 1 1 attributes) where
           pub quick-unit : not b ≡ true → false ≡ suits
           unfolding quickSuits
-          quick-unit h = rw (← ei, ← ew, eq-eqb id wanted same, ← ea, ← em, ← ev, was-true a in-mode, ← eb, was-false b h)
+          quick-unit h = rw (← ei, ← ew, eq-eqb id wanted same, ← ea, ← em, ← ev, not-false a in-mode, ← eb, not-true b h)
 
-          pub quick-rest : not b ≡ false → (protocols : ℕ) → protocols ≡ quickProtocols i book → (r : Bool) → r ≡ quickAuthentication protocols protocol attributes → r ≡ suits
+          pub quick-rest : not b ≡ false → (protocols : ℕ) → protocols ≡ quickProtocols i book → (r : Bool) →
+              r ≡ quickAuthentication protocols protocol attributes → r ≡ suits
           unfolding quickSuits
-          quick-rest h protocols ep r e = rw (← ei, ← ew, eq-eqb id wanted same, ← ea, ← em, ← ev, was-true a in-mode, ← eb, was-true b h, ← es, ← el, was-true l lives, ← ep) e
+          quick-rest h protocols ep r e =
+              rw (← ei, ← ew, eq-eqb id wanted same, ← ea, ← em, ← ev, not-false a in-mode, ← eb, not-false b h, ← es, ← el, not-false l lives, ← ep) e
 
 module _ (exchange i : ℕ) (book : List ℕ) (protocol : ℕ) (t : List ℕ) (r : Bool) where
   pub main-line : exchange ≡ 2 → (seconds : ℕ) → seconds ≡ mainSeconds i book → r ≡ mainSuits seconds t → r ≡ suitsLine exchange i book protocol t
   unfolding suitsLine
   main-line h seconds es e = rw (eq-eqb exchange 2 h, ← es) e
 
-  pub quick-line : (exchange ≡ 2 → ⊥) → r ≡ suits i book protocol t → r ≡ suitsLine exchange i book protocol t
+  pub quick-line : (exchange ≡ 2 → ⊥) → r ≡ suitsQuickLine i book protocol t → r ≡ suitsLine exchange i book protocol t
   unfolding suitsLine
   quick-line h e = rw (ne-eqb exchange 2 h) e
-
-skip-next : (rest : List ℕ → List ℕ) (k : ℕ) (s : List ℕ) → skip rest (suc k) s ≡ rest (skip rest k s)
-unfolding skip
-skip-next rest zero s = refl
-skip-next rest (suc k) s = skip-next rest k (rest s)
 
 pub rest-first : (p rest : List ℕ) → rest ≡ transformBytes p → rest ≡ skip afterItem 0 (transformBytes p)
 unfolding skip
@@ -93,7 +83,8 @@ module _ (n k exchange i : ℕ) (book p : List ℕ) where
     unfolding afterItem
     lowest-rest after ea = rw (add-one, skip-next afterItem k (transformBytes p), ← er, ← es) ea
 
-    module _ (some : n ≡ 0 → ⊥) (attributetype : ℕ) (ek : attributetype ≡ protocol p) (t : List ℕ) (et : t ≡ take size rest) (b : Bool) (eb : b ≡ suitsLine exchange i book attributetype t) where
+    module _ (some : n ≡ 0 → ⊥) (attributetype : ℕ) (ek : attributetype ≡ protocol p) (t : List ℕ) (et : t ≡ take size rest) (b : Bool)
+        (eb : b ≡ suitsLine exchange i book attributetype t) where
       is : b ≡ transformSuits exchange i book p k
       unfolding transformSuits transform firstItem
       is = rw (← er, ← es, ← et, ← ek) eb
@@ -127,9 +118,9 @@ module _ (exchange i : ℕ) (book set : List ℕ) (p : List ℕ) (low : ℕ) (ep
   module _ (some : low ≡ 0 → ⊥) (b : Bool) (eb : b ≡ protocolsSuit exchange i book set) where
     pub set-protocols : not b ≡ true → false ≡ setSuits exchange i book set
     unfolding setSuits
-    set-protocols h = rw (← eb, was-false b h)
+    set-protocols h = rw (← eb, not-true b h)
 
     pub set-rest : not b ≡ false → (count : ℕ) (q : List ℕ) (low2 : ℕ) → count ≡ proposalCount set → q ≡ proposal 1 set → low2 ≡ lowest exchange i book q →
         (eqb count 1 || leb 1 low2) ≡ setSuits exchange i book set
     unfolding setSuits
-    set-rest suit count q low2 ec eq el2 = rw (← eb, was-true b suit, ← ep, ← el, le-leb 1 low (omega arith), ← ec, ← eq, ← el2)
+    set-rest suit count q low2 ec eq el2 = rw (← eb, not-false b suit, ← ep, ← el, le-leb 1 low (omega arith), ← ec, ← eq, ← el2)

@@ -48,11 +48,14 @@ quickSuits protocols mode seconds protocol t =
     eqb (transformId t) (quickId protocol) && valueIs 4 mode (attributesOf t) && valueIs 1 1 (attributesOf t) && lifeWithin 2 seconds (attributesOf t)
     && quickAuthentication protocols protocol (attributesOf t)
 
--- whether a transform of this protocol suits a line of the exchange, the line at place i of the book
+-- whether a transform of this protocol suits line i, counted from 0, of the book's quick lines, or of the lines for an exchange
+abbrev pub suitsQuickLine : (i : ℕ) (book : Bytes) (protocol : ℕ) (t : Bytes) → Bool
+suitsQuickLine i book protocol t = quickSuits (quickProtocols i book) (quickMode i book) (quickSeconds i book) protocol t
+
 unfoldable pub suitsLine : (exchange i : ℕ) (book : Bytes) (protocol : ℕ) (t : Bytes) → Bool
 suitsLine exchange i book protocol t =
     if eqb exchange 2 then mainSuits (mainSeconds i book) t
-    else quickSuits (quickProtocols i book) (quickMode i book) (quickSeconds i book) protocol t
+    else suitsQuickLine i book protocol t
 
 -- "each proposal has a suiting transform": whether transform k of a proposal suits the line
 unfoldable pub transformSuits : (exchange i : ℕ) (book p : Bytes) (k : ℕ) → Bool

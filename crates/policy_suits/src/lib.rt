@@ -21,8 +21,7 @@ ghost use Prim.Native.Nat.{_+_, _≤_};
 ghost use Rattle.sa_proposals.specs.Proposals.{transformBytes};
 ghost use Rattle.wire_read.specs.Parts.{skip};
 ghost use Rattle.sa_items.specs.Items.{afterItem};
-ghost use Rattle.policy_lines.specs.Lines.{quickProtocols, quickMode, quickSeconds};
-ghost use Rattle.policy_suits.specs.Suits.{valueIs, lifeWithin, nothingSurplus, mainValues, mainSuits, quickId, quickAuthentication, quickSuits, suitsLine, lowestFrom, lowest, protocolsAlone, protocolsBoth, protocolsSuit, setSuits};
+ghost use Rattle.policy_suits.specs.Suits.{valueIs, lifeWithin, nothingSurplus, mainValues, mainSuits, quickId, quickAuthentication, suitsQuickLine, suitsLine, lowestFrom, lowest, protocolsAlone, protocolsBoth, protocolsSuit, setSuits};
 
 fn value_is(attributetype: u16, wanted: u32, attributes: &[u8]) -> bool
     ensures { λ r. ⌜ r ≡ valueIs attributetype wanted (now (attributes .entry)) ⌝ }
@@ -83,7 +82,7 @@ fn quick_authentication(protocols: u8, protocol: u8, attributes: &[u8]) -> bool
 
 // Whether a transform of a proposal of this protocol suits quick line i.
 fn quick_suits(i: u8, book: &[u8], protocol: u8, t: &[u8]) -> bool
-    ensures { λ r. ⌜ r ≡ quickSuits (quickProtocols i (now (book .entry))) (quickMode i (now (book .entry))) (quickSeconds i (now (book .entry))) protocol (now (t .entry)) ⌝ }
+    ensures { λ r. ⌜ r ≡ suitsQuickLine i (now (book .entry)) protocol (now (t .entry)) ⌝ }
 {
     let attributes = attributes_of(t);
     if transform_id(t) != quick_id(protocol) {

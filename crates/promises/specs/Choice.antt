@@ -1,6 +1,6 @@
 -- Demand 2, the choice: "'No proposal chosen' answers a readable offer exactly when no offered set suits any policy line", and what is chosen
--- is the first set, the first line that it suits, and the lowest transform in each proposal. "Suits" is the record Suits of policy, which says
--- document 01's sentence with no search in it. Shut out: the core that always answers 14, and the one that takes a set's proposals as
+-- is the first set, the first line that it suits, and the lowest transform in each proposal. "Suits" is the record Suits of policy_suits, which
+-- says document 01's sentence with no search in it. Shut out: the core that always answers 14, and the one that takes a set's proposals as
 -- alternatives.
 use Prim.Native.Nat.{ℕ, _+_, _≤_, _<_}
 use mathlib.Core.Path.{_≡_, refl, sym, ap, _∙_}
@@ -20,6 +20,7 @@ use Rattle.sa_sets.specs.Sets.{set, setCount}
 use Rattle.sa_items.specs.Items.{proposal}
 use Rattle.policy_book.specs.Book.{bookRead, bookAnswer}
 use Rattle.policy_suits.specs.Suits.{transformSuits, lowest, setSuits}
+use Rattle.policy_suits.specs.Suiting.{First, Suits}
 use Rattle.policy_choice.specs.Choice.{lineCount, chosen, chooseFrom, saFrom, messageChoice, bookChoice, choice, choiceAnswer}
 use Rattle.policy_reply.specs.Reply.{replyAnswer}
 use Rattle.policy_book.specs.declared.Book.{Book}
@@ -30,7 +31,8 @@ use Rattle.policy_choice.specs.declared.Choice.the-variants.{Refused, Chosen}
 use Rattle.policy_reply.specs.declared.Outcome.{Outcome}
 use Rattle.policy_reply.specs.declared.Outcome.the-variants as replies
 use Rattle.promises.specs.SequenceAnswers.{parts}
-use Rattle.policy_choice.proofs.Laws.{First, lowest-is, NoLine, Choosing, fourteen, chose, choosing, Suits, suits-says, says-suits}
+use Rattle.policy_suits.proofs.Laws.{lowest-is, suits-says, says-suits}
+use Rattle.policy_choice.proofs.Laws.{NoLine, Choosing, fourteen, chose, choosing}
 
 -- a lawful book, and a message that reads and has an SA payload
 pub record Offer (book m : List ℕ) : Type 0 where
@@ -43,8 +45,12 @@ pub record Offer (book m : List ℕ) : Type 0 where
   pub offered : length (saFrom count 0 m) ≡ 0 → ⊥
 
 -- no offered set suits any policy line
-abbrev pub NoneSuits : ℕ → List ℕ → List ℕ → Type 0
+abbrev pub NoneSuits : (exchange : ℕ) (book body : List ℕ) → Type 0
 NoneSuits exchange book body = (k i : ℕ) → k < setCount body → i < lineCount exchange book → Suits exchange i book (set k body) → ⊥
+
+-- the lowest transform of proposal p is the first that suits line i
+abbrev pub LowestFirst : (exchange i : ℕ) (book p : List ℕ) → Type 0
+LowestFirst exchange i book p = First (transformSuits exchange i book p) (transformCount p) 0 (lowest exchange i book p)
 
 -- a choice: set k and line i, counted from 0
 pub record Best (exchange : ℕ) (book body : List ℕ) (r : Choice) : Type 0 where
@@ -55,7 +61,7 @@ pub record Best (exchange : ℕ) (book body : List ℕ) (r : Choice) : Type 0 wh
   pub suits : Suits exchange i book (set k body)
   pub first-set : (j l : ℕ) → j < k → l < lineCount exchange book → Suits exchange l book (set j body) → ⊥
   pub first-line : (l : ℕ) → l < i → Suits exchange l book (set k body) → ⊥
-  pub lowest-transform : (j : ℕ) → First (transformSuits exchange i book (proposal j (set k body))) (transformCount (proposal j (set k body))) 0 (lowest exchange i book (proposal j (set k body)))
+  pub lowest-transform : (j : ℕ) → LowestFirst exchange i book (proposal j (set k body))
   pub answered : r ≡ chosen exchange (i + 1) book (set k body)
 
 -- ---- proofs
@@ -69,7 +75,8 @@ module _ (exchange : ℕ) (book body : List ℕ) where
   means-none (fourteen f) e = f
   means-none (chose j i h l b t f g) e = never (cc)
 
-  none-means : {n k : ℕ} {r : Choice} → Choosing exchange book body n k r → ((j i : ℕ) → k ≤ j → j < k + n → i < lineCount exchange book → Suits exchange i book (set j body) → ⊥) → r ≡ Refused 14
+  none-means : {n k : ℕ} {r : Choice} → Choosing exchange book body n k r →
+      ((j i : ℕ) → k ≤ j → j < k + n → i < lineCount exchange book → Suits exchange i book (set j body) → ⊥) → r ≡ Refused 14
   none-means (fourteen f) e = refl
   none-means (chose j i h l b t f g) e = absurd (e j i h l b (suits-says exchange i book (set j body) t))
 
@@ -88,28 +95,35 @@ module _ (exchange : ℕ) (book body : List ℕ) where
   }
 
 module _ (book m : List ℕ) (o : Offer book m) where
-  pub choice-is : choice book m ≡ chooseFrom (o .exchange) book (saFrom (o .count) 0 m)
+  -- the body of the SA payload
+  abbrev body : List ℕ
+  body = saFrom (o .count) 0 m
+
+  pub choice-is : choice book m ≡ chooseFrom (o .exchange) book body
   unfolding choice bookChoice messageChoice
-  choice-is = rw (o .lawful, o .readable, ne-eqb (length (saFrom (o .count) 0 m)) 0 (o .offered))
+  choice-is = rw (o .lawful, o .readable, ne-eqb (length body) 0 (o .offered))
 
-  pub fourteen-means-none : choice book m ≡ Refused 14 → NoneSuits (o .exchange) book (saFrom (o .count) 0 m)
+  pub fourteen-means-none : choice book m ≡ Refused 14 → NoneSuits (o .exchange) book body
   fourteen-means-none e k i a b u =
-      no-suit (o .exchange) i book (set k (saFrom (o .count) 0 m))
-      (means-none (o .exchange) book (saFrom (o .count) 0 m) (choosing (o .exchange) book (saFrom (o .count) 0 m)) (sym choice-is ∙ e) k (omega arith) (omega arith) i b) u
+      no-suit (o .exchange) i book (set k body)
+      (means-none (o .exchange) book body (choosing (o .exchange) book body) (sym choice-is ∙ e) k (omega arith) (omega arith) i b) u
 
-  pub none-means-fourteen : NoneSuits (o .exchange) book (saFrom (o .count) 0 m) → choice book m ≡ Refused 14
-  none-means-fourteen f = choice-is ∙ none-means (o .exchange) book (saFrom (o .count) 0 m) (choosing (o .exchange) book (saFrom (o .count) 0 m)) (λ j i h l. f j i (omega arith))
+  pub none-means-fourteen : NoneSuits (o .exchange) book body → choice book m ≡ Refused 14
+  none-means-fourteen f = choice-is ∙ none-means (o .exchange) book body (choosing (o .exchange) book body) (λ j i h l. f j i (omega arith))
 
-  pub chosen-best : (choice book m ≡ Refused 14 → ⊥) → Best (o .exchange) book (saFrom (o .count) 0 m) (choice book m)
-  chosen-best d = rw choice-is (best (o .exchange) book (saFrom (o .count) 0 m) (choosing (o .exchange) book (saFrom (o .count) 0 m)) refl (λ e. d (choice-is ∙ e)))
+  pub chosen-best : (choice book m ≡ Refused 14 → ⊥) → Best (o .exchange) book body (choice book m)
+  chosen-best d = rw choice-is (best (o .exchange) book body (choosing (o .exchange) book body) refl (λ e. d (choice-is ∙ e)))
 
 -- ---- no two choices have the same number and values
+
+abbrev value-at : Answer → ℕ → ℕ
+value-at a n = getD (a .values) n 0
 
 abbrev meant : Answer → Choice
 meant a =
     if eqb (length (a .values)) 0 then Refused (a .number)
-    else if eqb (length (a .values)) 3 then Chosen (record { 0 = getD (a .values) 0 0 }) (record { 0 = getD (a .values) 1 0 }) (One (record { 0 = getD (a .values) 2 0 }))
-    else Chosen (record { 0 = getD (a .values) 0 0 }) (record { 0 = getD (a .values) 1 0 }) (Two (record { 0 = getD (a .values) 2 0 }) (record { 0 = getD (a .values) 3 0 }))
+    else if eqb (length (a .values)) 3 then Chosen (record { 0 = value-at a 0 }) (record { 0 = value-at a 1 }) (One (record { 0 = value-at a 2 }))
+    else Chosen (record { 0 = value-at a 0 }) (record { 0 = value-at a 1 }) (Two (record { 0 = value-at a 2 }) (record { 0 = value-at a 3 }))
 
 meant-answer : (c : Choice) → meant (choiceAnswer c) ≡ c
 unfolding choiceAnswer

@@ -6,13 +6,13 @@ use mathlib.Core.List.{List}
 use native.Mathlib.Omega.{arith}
 use lib.ListN.{length}
 use Rattle.message_header.specs.Header.{firstPayload}
-use Rattle.message_chain.specs.Message.{payloads, reading, walk, payloadAt, messageAnswer}
+use Rattle.message_chain.specs.Message.{payloads, nth, reading, walk, payloadAt, messageAnswer}
 use Rattle.message_chain.specs.declared.Payload.{Payload}
 use Rattle.message_chain.specs.declared.Message.{Message}
 use Rattle.message_chain.specs.declared.Message.the-variants.{Refused, Read}
 use Rattle.wire_read.proofs.Tests.{never}
 use Rattle.promises.specs.SequenceAnswers.{parts}
-use Rattle.message_chain.proofs.Laws.{nth, walk-start, reading-found}
+use Rattle.message_chain.proofs.Laws.{walk-start, reading-found}
 
 -- what is promised of the payloads ps that were found in m
 pub record InLine (m : List ℕ) (ps : List Payload) : Type 0 where

@@ -15,9 +15,10 @@ use Rattle.sa_fields.specs.Fields.{proposalNumber}
 use Rattle.wire_read.specs.Parts.{skip, parts}
 use Rattle.sa_items.specs.Items.{firstItem, afterItem, proposal, proposalCount}
 use Rattle.sa_sets.specs.Sets.{setEnd, firstSet, afterSet, set, setCount}
-use Rattle.sa_proposals.proofs.Laws.{Rising, end, on}
-use Rattle.sa_sets.proofs.Laws.{Same, same-end, same-on, Sets, sets-end, sets-on, Parted, parted, first-item, after-item}
-use Rattle.sa_sets.proofs.Places.{least-at, item-at, same-at}
+use Rattle.sa_proposals.proofs.Laws.{Rising, end, on, least-at, item-at}
+use Rattle.sa_items.proofs.Laws.{first-item, after-item}
+use Rattle.sa_sets.proofs.Laws.{Same, same-end, same-on, Sets, sets-end, sets-on, Parted, parted}
+use Rattle.sa_sets.proofs.Places.{same-at}
 
 -- ---- what is promised
 

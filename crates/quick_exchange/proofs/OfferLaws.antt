@@ -19,14 +19,15 @@ use Rattle.sa_attribute.specs.Attributes.{sentFixed, attributeType, attributeSi
 use Rattle.sa_coding.specs.Coding.{outOfBounds, mustBeFixed, fixedWrong, isDuration, durationWrong, attributeCode, attributesFrom, attributesCode}
 use Rattle.sa_proposals.specs.Proposals.{has, with, setBefore, orderWrong, protocolWrong, proposalCode, proposalsCode}
 use Rattle.sa_proposals.specs.Proposals as proposals
-use Rattle.sa_proposals.proofs.Laws.{Item, Rising, end, on, LawfulTransform}
+use Rattle.sa_proposals.proofs.Laws.{Item, Rising, end, on}
+use Rattle.sa_transforms.proofs.Laws.{LawfulTransform}
 use Rattle.sa_proposals.proofs.Written.{proposed, Keyed, keyed, Writes, alone-transforms, proposed-size, proposed-code, proposed-lawful, order-first, last-proposal, more-proposals}
 use Rattle.sa_fields.specs.Fields.{transformCount}
 use Rattle.wire_read.specs.Parts.{skip, parts}
 use Rattle.sa_items.specs.Items.{firstItem, proposal, proposalCount, transform}
 use Rattle.sa_sets.specs.Sets.{setEnd, firstSet, afterSet, set, setCount}
 use Rattle.sa_sets.proofs.Laws.{Same, same-end, same-on}
-use Rattle.sa_sets.proofs.Places.{proposals-count, proposals-place}
+use Rattle.sa_items.proofs.Laws.{proposals-count, proposals-place}
 use Rattle.policy_lines.specs.Lines.{quickProtocols, quickMode, quickSeconds}
 use Rattle.policy_suits.specs.Suits.{quickId}
 use Rattle.policy_reply.specs.Reply.{ownSpi, fields, proposalOf}

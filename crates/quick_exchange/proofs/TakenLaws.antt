@@ -22,7 +22,8 @@ use Rattle.sa_fields.specs.Fields.{proposalNumber, protocol, spi, transformCoun
 use Rattle.sa_sets.specs.Sets.{set, setCount, setNumbered}
 use Rattle.sa_items.specs.Items.{proposal, proposalCount, transform}
 use Rattle.sa_fields.specs.declared.ProposalNumber.{ProposalNumber}
-use Rattle.sa_sets.proofs.Places.{LawfulSet, set-lawful, set-by-number, transform-lawful}
+use Rattle.sa_items.proofs.Laws.{transform-lawful}
+use Rattle.sa_sets.proofs.Places.{LawfulSet, set-lawful, set-by-number}
 use Rattle.policy_suits.specs.Suits.{lowest}
 use Rattle.policy_choice.specs.Choice.{numberOf, transformsOf, chosen, bodyAt, chooseFrom}
 use Rattle.policy_reply.specs.Reply.{ownSpi, setReply, saOf, spiLow, spisLow}
@@ -31,8 +32,10 @@ use Rattle.policy_choice.specs.declared.Transforms.{Transforms}
 use Rattle.policy_choice.specs.declared.Transforms.the-variants.{One, Two}
 use Rattle.policy_choice.specs.declared.Choice.{Choice}
 use Rattle.policy_choice.specs.declared.Choice.the-variants.{Chosen}
-use Rattle.policy_choice.proofs.Laws.{Choosing, fourteen, chose, choosing, Suits, suits-says}
-use Rattle.policy_choice.proofs.SuitLaws.{Known, isakmp, ah-of, esp-of, known-of, chosenIn, taken, shape}
+use Rattle.policy_suits.specs.Suiting.{Suits}
+use Rattle.policy_suits.proofs.Laws.{suits-says}
+use Rattle.policy_choice.proofs.Laws.{Choosing, fourteen, chose, choosing}
+use Rattle.policy_suits.proofs.SuitLaws.{Known, isakmp, ah-of, esp-of, known-of, chosenIn, taken, shape}
 use Rattle.policy_reply.proofs.ReplyLaws.{Repeats, reply-repeats, reply-short}
 use Rattle.quick_write.specs.Messages.{bookOf, offerOf, proposalsOf, longer, messageOne, messageTwo, lines}
 use Rattle.quick_shape.specs.Shapes.{alike, shapeOf}

@@ -11,8 +11,7 @@ use borrow.Author.Tests.{ltb-false, leb-true, eqb-true, eqb-false, not-false}
 use Rattle.wire_read.specs.Wire.{numberAt}
 use Rattle.wire_read.proofs.Tests.{neither, both, by-test, passed}
 use Rattle.wire_read.proofs.Laws.{number-take}
-use Rattle.sa_coding.specs.Coding.{attributesCode}
-use Rattle.sa_transforms.specs.Transforms.{nextWanted, transformWrong, transformCode, transformsCode}
+use Rattle.sa_transforms.specs.Transforms.{transformsCode}
 use Rattle.sa_proposals.specs.Proposals.{proposalWrong, has, setBefore, none, orderWrong, protocolWrong, spiWrong, countWrong, transformBytes, innerCode, proposalCode, proposalsCode, offerCode}
 use Rattle.sa_proposals.specs.declared.Protocols.{Protocols}
 
@@ -29,6 +28,16 @@ pub record Item (exchange : ℕ) (p : List ℕ) : Type 0 where
 pub data Rising (exchange : ℕ) : ℕ → List (List ℕ) → Type 0 where
   end : {least : ℕ} → Rising exchange least []
   on : {least : ℕ} {p : List ℕ} {ps : List (List ℕ)} → Item exchange p → least ≤ getD p 4 0 → Rising exchange (getD p 4 0) ps → Rising exchange least (p ∷ ps)
+
+pub least-at : {exchange least : ℕ} {ps : List (List ℕ)} → Rising exchange least ps → (j : ℕ) → j < length ps → least ≤ getD (getD ps j []) 4 0
+least-at end j h = absurd (omega arith)
+least-at (on i o r) zero h = o
+least-at (on i o r) (suc j) h = omega (arith, least-at r j (omega arith))
+
+pub item-at : {exchange least : ℕ} {ps : List (List ℕ)} → Rising exchange least ps → (j : ℕ) → j < length ps → Item exchange (getD ps j [])
+item-at end j h = absurd (omega arith)
+item-at (on i o r) zero h = i
+item-at (on i o r) (suc j) h = item-at r j (omega arith)
 
 -- s is at most so many such proposals and nothing else
 pub record Reads (exchange left least : ℕ) (s : List ℕ) : Type 0 where
@@ -155,63 +164,3 @@ offer-reads exchange body h =
     (λ c. reads 16 exchange 0 none (drop 8 body) (rw (a, b, c) at h))
     (λ c. absurd (omega (arith, rw (a, b, c) at h))))
     (λ b. absurd (omega (arith, rw (a, b) at h))))
-
--- ---- transforms
-
--- bytes that are one transform, by the length that it states
-pub record LawfulTransform (exchange : ℕ) (t : List ℕ) : Type 0 where
-  pub long : 8 ≤ length t
-  pub lies : numberAt 2 t 2 ≡ length t
-  pub reserved : getD t 1 0 ≡ 0
-  pub also-reserved : numberAt 2 t 6 ≡ 0
-  pub attributes : attributesCode exchange (drop 8 t) ≡ 0
-
--- what the checks on its first bytes leave
-record Fits (s : List ℕ) : Type 0 where
-  pub long : 8 ≤ numberAt 2 s 2
-  pub within : numberAt 2 s 2 ≤ length s
-  pub reserved : getD s 1 0 ≡ 0
-  pub also-reserved : numberAt 2 s 6 ≡ 0
-
-transform-fits : (left : ℕ) (s : List ℕ) → transformWrong left s ≡ false → Fits s
-unfolding transformWrong
-transform-fits left s w =
-    let ends = neither _ (ltb (length s) (numberAt 2 s 2)) w in
-    let long = neither _ (ltb (numberAt 2 s 2) 8) (ends .0) in
-    let last = neither _ (not (eqb (numberAt 2 s 6) 0)) (long .0) in
-    let first = neither (ltb (length s) 8 || not (eqb (getD s 0 0) (nextWanted left))) (not (eqb (getD s 1 0) 0)) (last .0) in
-    record {
-      long = ltb-false _ _ (long .1);
-      within = ltb-false _ _ (ends .1);
-      reserved = eqb-true _ _ (not-false _ (first .1));
-      also-reserved = eqb-true _ _ (not-false _ (last .1));
-    }
-
--- the transform at the front of what has passed, and its number
-pub first-transform : (exchange left least : ℕ) (s : List ℕ) → transformCode exchange left least s ≡ 0 →
-    LawfulTransform exchange (take (numberAt 2 s 2) s) × (least ≤ getD s 4 0) × (getD (take (numberAt 2 s 2) s) 4 0 ≡ getD s 4 0)
-unfolding transformCode
-first-transform exchange left least s h =
-    let right = passed (transformWrong left s) 15 _ (λ z. omega arith) h in
-    let low = passed (ltb (getD s 4 0) least) 15 _ (λ z. omega arith) (right .1) in
-    let f = transform-fits left s (right .0) in
-    let n : ℕ = numberAt 2 s 2 in
-    let size : length (take n s) ≡ n = length-take-le n s (f .within) in
-    let long : 8 ≤ n = f .long in (
-      record {
-        long = omega arith;
-        lies = number-take 2 n s 2 (omega arith) ∙ sym size;
-        reserved = getD-take n s 1 0 (omega arith) ∙ f .reserved;
-        also-reserved = number-take 2 n s 6 (omega arith) ∙ f .also-reserved;
-        attributes = low .1;
-      },
-      ltb-false _ _ (low .0),
-      getD-take n s 4 0 (omega arith),
-    )
-
-pub after-transform : (left exchange least : ℕ) (s : List ℕ) → transformsCode (suc left) exchange least s ≡ 0 →
-    (transformCode exchange left least s ≡ 0) × (transformsCode left exchange (getD s 4 0 + 1) (drop (numberAt 2 s 2) s) ≡ 0)
-unfolding transformsCode
-after-transform left exchange least s h =
-    let code : ℕ = transformCode exchange left least s in
-    by-test (eqb code 0) (λ e. (eqb-true code 0 e, rw e at h)) (λ e. absurd (eqb-false code 0 e (rw e at h)))

@@ -6,16 +6,17 @@ use mathlib.Core.List.{List, [], _∷_, _++_, append-nil}
 use mathlib.Core.Bool.{Bool, true, false, _||_, _&&_}
 use native.Mathlib.Omega.{arith}
 use lib.ListN.{length, getD, take, drop, length-append}
-use lib.Seq.{take-length, drop-length, take-append-seam, drop-append-seam, drop-drop}
+use lib.Seq.{drop-length, take-append-seam, drop-append-seam, drop-drop}
 use lib.Dec.{ltb, leb, eqb}
 use borrow.Author.Tests.{eqb-true, eq-eqb, ne-eqb, le-ltb, le-leb}
 use Rattle.wire_read.specs.Wire.{numberAt}
 use Rattle.wire_read.proofs.Tests.{by-test}
 use Rattle.wire_read.proofs.Laws.{number-append, number-append-add}
-use Rattle.sa_transforms.specs.Transforms.{nextWanted, transformWrong, transformCode, transformsCode}
+use Rattle.sa_transforms.specs.Transforms.{transformsCode}
+use Rattle.sa_transforms.proofs.Laws.{LawfulTransform, one-transform}
 use Rattle.sa_proposals.specs.Proposals.{proposalWrong, has, with, setBefore, none, orderWrong, protocolWrong, spiWrong, countWrong, transformBytes, innerCode, proposalCode, proposalsCode, offerCode}
 use Rattle.sa_proposals.specs.declared.Protocols.{Protocols}
-use Rattle.sa_proposals.proofs.Laws.{Item, LawfulTransform, first-lawful}
+use Rattle.sa_proposals.proofs.Laws.{Item, first-lawful}
 
 -- a proposal of one transform
 abbrev pub proposed : ℕ → ℕ → ℕ → ℕ → ℕ → List ℕ → List ℕ → List ℕ
@@ -35,22 +36,6 @@ pub record Writes (exchange next high low protocol : ℕ) (spi t : List ℕ) : T
   pub last : getD t 0 0 ≡ 0
 
 -- ---- the checks, passed one by one
-
-module _ (exchange : ℕ) (t : List ℕ) (l : LawfulTransform exchange t) (last : getD t 0 0 ≡ 0) where
-  transform-right : transformWrong 0 t ≡ false
-  unfolding transformWrong nextWanted
-  transform-right =
-      let e : numberAt 2 t 2 ≡ length t = l .lies in
-      let within : ltb (length t) (length t) ≡ false = le-ltb (length t) (length t) (omega arith) in
-      rw (e, le-ltb (length t) 8 (l .long), last, l .reserved, l .also-reserved, within)
-
-  transform-code : transformCode exchange 0 0 t ≡ 0
-  unfolding transformCode
-  transform-code = rw (transform-right, le-ltb (getD t 4 0) 0 (omega arith), l .lies, take-length t) (l .attributes)
-
-  one-transform : transformsCode 1 exchange 0 t ≡ 0
-  unfolding transformsCode
-  one-transform = rw (transform-code, l .lies, drop-length t)
 
 module _ (s : List ℕ) where
   proposal-right : 8 ≤ length s → (eqb (getD s 0 0) 0 || eqb (getD s 0 0) 2) ≡ true → getD s 1 0 ≡ 0 → 8 + getD s 6 0 ≤ numberAt 2 s 2 →

@@ -1,10 +1,10 @@
--- What firstItem, afterItem, firstSet and afterSet take off a body that reads: its proposals, and its sets.
+-- What firstSet and afterSet take off a body that reads: its sets, each of proposals with one number.
 use Prim.Native.Nat.{ℕ, zero, suc, _+_, _≤_, _<_}
 use mathlib.Core.Path.{_≡_, refl, sym, ap, _∙_}
 use mathlib.Core.List.{List, [], _∷_, _++_, append-assoc, append-nil, flatten}
 use mathlib.Core.Bool.{true, false}
 use native.Mathlib.Omega.{arith}
-use lib.ListN.{length, getD, take, drop, length-take, length-drop, length-append, List·getD-append}
+use lib.ListN.{length, getD, drop, length-append, List·getD-append}
 use lib.Seq.{getD-append-add, take-append-seam, drop-append-seam}
 use lib.Dec.{ltb, eqb}
 use borrow.Author.Tests.{eqb-true, eqb-false, eq-eqb, lt-ltb, le-ltb}
@@ -12,24 +12,11 @@ use Rattle.wire_read.specs.Wire.{numberAt}
 use Rattle.wire_read.specs.Tests.{if_then_else_}
 use Rattle.wire_read.proofs.Tests.{by-test}
 use Rattle.wire_read.proofs.Laws.{number-append, number-append-add, take-within, drop-within}
-use Rattle.sa_proposals.specs.Proposals.{transformBytes, offerCode}
-use Rattle.wire_read.specs.Parts.{skip}
-use Rattle.sa_items.specs.Items.{firstItem, afterItem, numbered, proposal, transformNumbered}
+use Rattle.sa_proposals.specs.Proposals.{offerCode}
+use Rattle.sa_items.proofs.Laws.{numbered-within}
 use Rattle.sa_sets.specs.Sets.{setEnd, firstSet, afterSet, setNumbered}
 use Rattle.sa_fields.specs.declared.ProposalNumber.{ProposalNumber}
-use Rattle.sa_fields.specs.declared.TransformNumber.{TransformNumber}
 use Rattle.sa_proposals.proofs.Laws.{Item, Rising, end, on, offer-reads}
-
--- ---- the proposals
-
-module _ {exchange : ℕ} (p s : List ℕ) (item : Item exchange p) where
-  pub first-item : firstItem (p ++ s) ≡ p
-  unfolding firstItem
-  first-item = rw (number-append 2 p s 2 (omega arith), item .lies) (take-append-seam p s)
-
-  pub after-item : afterItem (p ++ s) ≡ s
-  unfolding afterItem
-  after-item = rw (number-append 2 p s 2 (omega arith), item .lies) (drop-append-seam p s)
 
 -- ---- the sets
 
@@ -211,31 +198,6 @@ parted exchange body h =
 
 -- ---- parts are no longer than the whole
 
-numbered-within : (first rest : List ℕ → List ℕ) → ((s : List ℕ) → length (first s) ≤ length s) → ((s : List ℕ) → length (rest s) ≤ length s) →
-    (left number : ℕ) (s : List ℕ) → length (numbered first rest left number s) ≤ length s
-unfolding numbered
-numbered-within first rest f r zero number s = omega arith
-numbered-within first rest f r (suc left) number s =
-    by-test (eqb (getD s 4 0) number) (λ e. rw e (f s)) (λ e. rw e (omega (arith, numbered-within first rest f r left number (rest s), r s)))
-
-first-within : (s : List ℕ) → length (firstItem s) ≤ length s
-unfolding firstItem
-first-within s = take-within (numberAt 2 s 2) s
-
-after-within : (s : List ℕ) → length (afterItem s) ≤ length s
-unfolding afterItem
-after-within s = drop-within (numberAt 2 s 2) s
-
-pub transform-within : (number : TransformNumber) (p : List ℕ) → length (transformNumbered number p) ≤ length p
-unfolding transformNumbered transformBytes
-transform-within number p =
-    omega (
-      arith,
-      numbered-within firstItem afterItem first-within after-within 8 (number .0) (transformBytes p),
-      drop-within (8 + getD p 6 0) (take (numberAt 2 p 2) p),
-      take-within (numberAt 2 p 2) p,
-    )
-
 first-set-within : (s : List ℕ) → length (firstSet s) ≤ length s
 unfolding firstSet
 first-set-within s = take-within (setEnd 16 (getD s 4 0) s 0) s
@@ -248,14 +210,3 @@ pub set-within : (number : ProposalNumber) (body : List ℕ) → length (setNumb
 unfolding setNumbered
 set-within number body =
     omega (arith, numbered-within firstSet afterSet first-set-within after-set-within 16 (number .0) (drop 8 body), drop-within 8 body)
-
--- the first two proposals lie one behind the other
-pub two-within : (s : List ℕ) → length (proposal 0 s) + length (proposal 1 s) ≤ length s
-unfolding proposal firstItem afterItem skip
-two-within s =
-    omega (
-      arith,
-      length-take (numberAt 2 s 2) s,
-      length-drop (numberAt 2 s 2) s,
-      take-within (numberAt 2 (drop (numberAt 2 s 2) s) 2) (drop (numberAt 2 s 2) s),
-    )

@@ -1,69 +1,19 @@
--- Which proposal, set and transform stands at which place of a body that reads, and that its number finds it again: the numbers of sets, and
--- of a proposal's transforms, rise.
-use Prim.Native.Nat.{ℕ, zero, suc, _+_, _≤_, _<_}
+-- Which set stands at which place of a body that reads, and that its number finds it again: the numbers of sets rise.
+use Prim.Native.Nat.{ℕ, zero, suc, _≤_, _<_}
 use mathlib.Core.Path.{_≡_, refl, sym, ap, _∙_}
 use mathlib.Core.List.{List, [], _∷_, _++_, flatten}
 use native.Mathlib.Omega.{arith}
-use lib.ListN.{length, getD, take, drop, length-append, List·getD-append, take-append-drop}
+use lib.ListN.{length, getD, drop, length-append, List·getD-append, take-append-drop}
 use borrow.Author.Tests.{eq-eqb, ne-eqb}
-use Rattle.wire_read.specs.Wire.{numberAt}
-use Rattle.sa_transforms.specs.Transforms.{transformsCode}
-use Rattle.sa_proposals.specs.Proposals.{transformBytes, offerCode}
-use Rattle.sa_proposals.proofs.Laws.{Item, Rising, end, on, LawfulTransform, first-transform, after-transform}
-use Rattle.sa_fields.specs.Fields.{proposalNumber, transformCount, transformNumber}
+use Rattle.sa_proposals.specs.Proposals.{offerCode}
+use Rattle.sa_proposals.proofs.Laws.{Item, Rising, on, least-at, item-at}
+use Rattle.sa_items.proofs.Laws.{first-item, proposals-count, proposals-place}
+use Rattle.sa_fields.specs.Fields.{proposalNumber}
 use Rattle.wire_read.specs.Parts.{skip, parts}
-use Rattle.sa_items.specs.Items.{firstItem, afterItem, numbered, proposal, proposalCount, transform, transformNumbered}
+use Rattle.wire_read.proofs.Parts.{parts-none, parts-more}
+use Rattle.sa_items.specs.Items.{numbered, proposal, proposalCount}
 use Rattle.sa_sets.specs.Sets.{setEnd, firstSet, afterSet, set, setCount, setNumbered}
-use Rattle.sa_sets.proofs.Laws.{first-item, after-item, Same, same-end, same-on, Sets, sets-end, sets-on, parted, flatten-some, alone-first, alone-after}
-
--- ---- any parts, one behind the other
-
-module _ (rest : List ℕ → List ℕ) where
-  parts-none : (left : ℕ) → parts rest left [] ≡ 0
-  unfolding parts
-  parts-none zero = refl
-  parts-none (suc left) = refl
-
-  parts-on : (left : ℕ) (s : List ℕ) → 0 < length s → parts rest (suc left) s ≡ suc (parts rest left (rest s))
-  unfolding parts
-  parts-on left s h = rw (ne-eqb (length s) 0 (λ z. omega arith)) (omega arith)
-
--- ---- proposals
-
-pub least-at : {exchange least : ℕ} {ps : List (List ℕ)} → Rising exchange least ps → (j : ℕ) → j < length ps → least ≤ getD (getD ps j []) 4 0
-least-at end j h = absurd (omega arith)
-least-at (on i o r) zero h = o
-least-at (on i o r) (suc j) h = omega (arith, least-at r j (omega arith))
-
-pub item-at : {exchange least : ℕ} {ps : List (List ℕ)} → Rising exchange least ps → (j : ℕ) → j < length ps → Item exchange (getD ps j [])
-item-at end j h = absurd (omega arith)
-item-at (on i o r) zero h = i
-item-at (on i o r) (suc j) h = item-at r j (omega arith)
-
-items-count : {exchange least : ℕ} {ps : List (List ℕ)} → Rising exchange least ps → (left : ℕ) → length ps ≤ left →
-    parts afterItem left (flatten ps) ≡ length ps
-unfolding flatten
-items-count end left h = parts-none afterItem left
-items-count (on i o r) zero h = absurd (omega arith)
-items-count (on {p = p} {ps = ps} i o r) (suc left) h =
-    parts-on afterItem left (p ++ flatten ps) (omega (arith, length-append p (flatten ps)))
-    ∙ rw (after-item p (flatten ps) i) (ap suc (items-count r left (omega arith)))
-
-items-place : {exchange least : ℕ} {ps : List (List ℕ)} → Rising exchange least ps → (j : ℕ) → j < length ps →
-    firstItem (skip afterItem j (flatten ps)) ≡ getD ps j []
-unfolding flatten skip
-items-place end j h = absurd (omega arith)
-items-place (on {p = p} {ps = ps} i o r) zero h = first-item p (flatten ps) i
-items-place (on {p = p} {ps = ps} i o r) (suc j) h = rw (after-item p (flatten ps) i) (items-place r j (omega arith))
-
-module _ {exchange least : ℕ} {ps : List (List ℕ)} (r : Rising exchange least ps) where
-  pub proposals-count : length ps ≤ 16 → proposalCount (flatten ps) ≡ length ps
-  unfolding proposalCount
-  proposals-count few = items-count r 16 few
-
-  pub proposals-place : (j : ℕ) → j < length ps → proposal j (flatten ps) ≡ getD ps j []
-  unfolding proposal
-  proposals-place j h = items-place r j h
+use Rattle.sa_sets.proofs.Laws.{Same, same-end, same-on, Sets, sets-end, sets-on, parted, flatten-some, alone-first, alone-after}
 
 pub same-at : {n : ℕ} {ps : List (List ℕ)} → Same n ps → (j : ℕ) → j < length ps → getD (getD ps j []) 4 0 ≡ n
 same-at same-end j h = absurd (omega arith)
@@ -93,7 +43,7 @@ sets-count : {exchange least : ℕ} {s : List ℕ} {gs : List (List (List ℕ))}
     parts afterSet left s ≡ length gs
 sets-count sets-end left h = parts-none afterSet left
 sets-count (sets-on z f r m c g) zero h = absurd (omega arith)
-sets-count (sets-on {s = s} z f r m c g) (suc left) h = parts-on afterSet left s z ∙ ap suc (sets-count g left (omega arith))
+sets-count (sets-on {s = s} z f r m c g) (suc left) h = parts-more afterSet left s z ∙ ap suc (sets-count g left (omega arith))
 
 sets-lawful : {exchange least : ℕ} {s : List ℕ} {gs : List (List (List ℕ))} → Sets exchange least s gs → (k : ℕ) → k < length gs →
     LawfulSet exchange (firstSet (skip afterSet k s))
@@ -167,7 +117,9 @@ module _ {exchange : ℕ} (body p : List ℕ) (ps : List (List ℕ)) (item : Ite
 
   one-alone : setCount body ≡ 1
   unfolding setCount
-  one-alone = rw whole (parts-on afterSet 15 (flatten (p ∷ ps)) (flatten-some p ps item) ∙ rw (alone-after p ps item r few m) (ap suc (parts-none afterSet 15)))
+  one-alone =
+      rw whole
+      (parts-more afterSet 15 (flatten (p ∷ ps)) (flatten-some p ps item) ∙ rw (alone-after p ps item r few m) (ap suc (parts-none afterSet 15)))
 
   one-is : set 0 body ≡ flatten (p ∷ ps)
   unfolding set skip
@@ -180,47 +132,3 @@ module _ {exchange : ℕ} (body p : List ℕ) (ps : List (List ℕ)) (item : Ite
     count = rw one-is (proposals-count all-rising few);
     place = λ j h. rw one-is (proposals-place all-rising j h);
   }
-
--- ---- transforms
-
-module _ (exchange : ℕ) where
-  -- transform k of n that read, and its number
-  transform-at : (n least : ℕ) (s : List ℕ) → transformsCode n exchange least s ≡ 0 → (k : ℕ) → k < n →
-      LawfulTransform exchange (firstItem (skip afterItem k s)) × (least ≤ getD (firstItem (skip afterItem k s)) 4 0)
-  unfolding skip firstItem afterItem
-  transform-at zero least s h k l = absurd (omega arith)
-  transform-at (suc n) least s h zero l =
-      let f = first-transform exchange n least s (after-transform n exchange least s h .0) in
-      (f .0, omega (arith, f .1))
-  transform-at (suc n) least s h (suc k) l =
-      let a = after-transform n exchange least s h in
-      let f = first-transform exchange n least s (a .0) in
-      let r = transform-at n (getD s 4 0 + 1) (drop (numberAt 2 s 2) s) (a .1) k (omega arith) in
-      (r .0, omega (arith, f .1, r .1))
-
-  transforms-numbered : (n least : ℕ) (s : List ℕ) → transformsCode n exchange least s ≡ 0 → (k left : ℕ) → k < n → n ≤ left →
-      numbered firstItem afterItem left (getD (firstItem (skip afterItem k s)) 4 0) s ≡ firstItem (skip afterItem k s)
-  unfolding skip numbered firstItem afterItem
-  transforms-numbered zero least s h k left l few = absurd (omega arith)
-  transforms-numbered (suc n) least s h k zero l few = absurd (omega arith)
-  transforms-numbered (suc n) least s h zero (suc left) l few =
-      let f = first-transform exchange n least s (after-transform n exchange least s h .0) in
-      let t : List ℕ = take (numberAt 2 s 2) s in
-      rw (eq-eqb (getD s 4 0) (getD t 4 0) (sym (f .2)))
-  transforms-numbered (suc n) least s h (suc k) (suc left) l few =
-      let a = after-transform n exchange least s h in
-      let rest : List ℕ = drop (numberAt 2 s 2) s in
-      let r = transform-at n (getD s 4 0 + 1) rest (a .1) k (omega arith) in
-      let m : ℕ = getD (firstItem (skip afterItem k rest)) 4 0 in
-      let other : getD s 4 0 ≡ m → ⊥ = λ e. omega (arith, r .1) in
-      rw (ne-eqb (getD s 4 0) m other) (transforms-numbered n (getD s 4 0 + 1) rest (a .1) k left (omega arith) (omega arith))
-
--- of a proposal that reads
-module _ (exchange : ℕ) (p : List ℕ) (item : Item exchange p) (k : ℕ) (h : k < transformCount p) where
-  pub transform-lawful : LawfulTransform exchange (transform k p)
-  unfolding transform transformCount
-  transform-lawful = transform-at exchange (getD p 7 0) 0 (transformBytes p) (item .transforms) k h .0
-
-  pub transform-by-number : transformNumbered (transformNumber (transform k p)) p ≡ transform k p
-  unfolding transform transformCount transformNumbered transformNumber
-  transform-by-number = transforms-numbered exchange (getD p 7 0) 0 (transformBytes p) (item .transforms) k 8 h (item .at-most)

@@ -1,7 +1,8 @@
--- Parts one behind the other, whatever takes off the first: a law for each way out of a function that skips or counts them.
-use Prim.Native.Nat.{ℕ, zero, suc, _+_, _-_, _≤_}
+-- Parts one behind the other, whatever takes off the first: how they are skipped and counted, and a law for each way out of a function
+-- that does so.
+use Prim.Native.Nat.{ℕ, zero, suc, _+_, _-_, _≤_, _<_}
 use mathlib.Core.Path.{_≡_, refl}
-use mathlib.Core.List.{List}
+use mathlib.Core.List.{List, []}
 use mathlib.Core.Bool.{Bool, true, false}
 use native.Mathlib.Omega.{arith}
 use lib.ListN.{length}
@@ -33,6 +34,20 @@ module _ (rest : List ℕ → List ℕ) where
 
   pub parts-below : (left n : ℕ) (s : List ℕ) → n ≡ parts rest left s → n ≤ left
   parts-below left n s e = omega (arith, parts-most left s)
+
+  pub parts-none : (left : ℕ) → parts rest left [] ≡ 0
+  unfolding parts
+  parts-none zero = refl
+  parts-none (suc left) = refl
+
+  pub parts-more : (left : ℕ) (s : List ℕ) → 0 < length s → parts rest (suc left) s ≡ suc (parts rest left (rest s))
+  unfolding parts
+  parts-more left s h = rw (ne-eqb (length s) 0 (λ z. omega arith)) (omega arith)
+
+  pub skip-next : (k : ℕ) (s : List ℕ) → skip rest (suc k) s ≡ rest (skip rest k s)
+  unfolding skip
+  skip-next zero s = refl
+  skip-next (suc k) s = skip-next k (rest s)
 
   module _ (k : ℕ) (s : List ℕ) where
     pub skip-here : k ≡ 0 → s ≡ skip rest k s

@@ -14,14 +14,15 @@ use Rattle.sa_attribute.specs.Attributes.{attribute, attributeCount}
 use Rattle.sa_coding.specs.Coding.{mustBeFixed, isDuration}
 use Rattle.sa_coding.proofs.Laws.{wantedTimes, apart, allShort, allThere, wanted-length}
 use Rattle.sa_proposals.specs.Proposals.{protocolWrong}
-use Rattle.sa_proposals.proofs.Laws.{Item, LawfulTransform}
+use Rattle.sa_transforms.proofs.Laws.{LawfulTransform}
+use Rattle.sa_proposals.proofs.Laws.{Item}
 use Rattle.sa_fields.specs.Fields.{protocol, transformCount, transformId, attributesOf}
-use Rattle.sa_items.specs.Items.{proposal, proposalCount, transform, transformNumbered}
-use Rattle.sa_sets.proofs.Places.{transform-lawful, transform-by-number}
+use Rattle.sa_items.specs.Items.{proposal, proposalCount, transform}
+use Rattle.sa_items.proofs.Laws.{transform-lawful}
 use Rattle.policy_lines.specs.Lines.{quickProtocols}
-use Rattle.policy_choice.specs.Choice.{numberOf}
-use Rattle.policy_choice.proofs.Laws.{First, none, here, lowest-is, HasTransform, transform-low}
+use Rattle.policy_suits.specs.Suiting.{First, none, here, HasTransform}
+use Rattle.policy_suits.proofs.Laws.{lowest-is, transform-low}
 use Rattle.policy_suits.specs.Suits.{present, valueIs, lifeWithin, nothingSurplus, mainValues, mainSuits, quickId, quickAuthentication, quickSuits, suitsLine, transformSuits, lowest, protocolsAlone, protocolsBoth, protocolsSuit}
 
 -- ---- a transform that suits is short
 
@@ -37,7 +38,8 @@ module _ (t : List ℕ) where
   abbrev attributes : List ℕ
   attributes = attributesOf t
 
-  main-there : mainValues attributes ≡ true → (seconds : ℕ) → lifeWithin 12 seconds attributes ≡ true → allThere 16 (1 ∷ 2 ∷ 3 ∷ 20 ∷ 11 ∷ 12 ∷ []) attributes ≡ true
+  main-there : mainValues attributes ≡ true → (seconds : ℕ) → lifeWithin 12 seconds attributes ≡ true →
+      allThere 16 (1 ∷ 2 ∷ 3 ∷ 20 ∷ 11 ∷ 12 ∷ []) attributes ≡ true
   unfolding mainValues allThere attribute
   main-there h seconds life =
       let a = both _ (valueIs 11 1 attributes) h in
@@ -70,7 +72,8 @@ module _ (t : List ℕ) where
       )
 
   -- with authentication, and without it where AH goes along
-  quick-there : (mode seconds : ℕ) → valueIs 4 mode attributes ≡ true → valueIs 1 1 attributes ≡ true → lifeWithin 2 seconds attributes ≡ true → allThere 16 (4 ∷ 1 ∷ 2 ∷ []) attributes ≡ true
+  quick-there : (mode seconds : ℕ) → valueIs 4 mode attributes ≡ true → valueIs 1 1 attributes ≡ true → lifeWithin 2 seconds attributes ≡ true →
+      allThere 16 (4 ∷ 1 ∷ 2 ∷ []) attributes ≡ true
   unfolding allThere attribute
   quick-there mode seconds a b c = rw (value-there 4 mode attributes a, value-there 1 1 attributes b, life-there 2 seconds attributes c)
 
@@ -78,7 +81,8 @@ module _ (t : List ℕ) where
   unfolding allThere attribute
   with-authentication a b = rw (value-there 5 20 attributes b) a
 
-  quick-attributes : (protocols wanted : ℕ) → LawfulTransform 32 t → allThere 16 (4 ∷ 1 ∷ 2 ∷ []) attributes ≡ true → quickAuthentication protocols wanted attributes ≡ true → length attributes ≤ 32
+  quick-attributes : (protocols wanted : ℕ) → LawfulTransform 32 t → allThere 16 (4 ∷ 1 ∷ 2 ∷ []) attributes ≡ true →
+      quickAuthentication protocols wanted attributes ≡ true → length attributes ≤ 32
   unfolding quickAuthentication attributesOf apart allShort wantedTimes mustBeFixed isDuration
   quick-attributes protocols wanted l there h =
       by-test (eqb protocols 2 && eqb wanted 3)
@@ -112,14 +116,16 @@ known-of exchange wanted h =
     let two = both (eqb exchange 32) (eqb wanted 2 || eqb wanted 3) right in
     rw (eqb-true exchange 32 (two .0)) (by-test (eqb wanted 2) (λ f. rw (eqb-true wanted 2 f) ah-of) (λ f. rw (eqb-true wanted 3 (rw f at two .1)) esp-of)))
 
-suits-short : {exchange wanted : ℕ} → Known exchange wanted → (i : ℕ) (book p : List ℕ) (k : ℕ) → LawfulTransform exchange (transform k p) → transformSuits exchange i book p k ≡ true → length (transform k p) ≤ 56
+suits-short : {exchange wanted : ℕ} → Known exchange wanted → (i : ℕ) (book p : List ℕ) (k : ℕ) → LawfulTransform exchange (transform k p) →
+    transformSuits exchange i book p k ≡ true → length (transform k p) ≤ 56
 unfolding transformSuits suitsLine
 suits-short isakmp i book p k l h = main-short (transform k p) _ l h
 suits-short ah-of i book p k l h = quick-short (transform k p) _ _ _ _ l h
 suits-short esp-of i book p k l h = quick-short (transform k p) _ _ _ _ l h
 
 -- "a main transform suits .. A quick one": of a proposal that reads, at most 56 bytes
-pub suiting-short : (exchange i : ℕ) (book p : List ℕ) (k : ℕ) → Item exchange p → k < transformCount p → transformSuits exchange i book p k ≡ true → length (transform k p) ≤ 56
+pub suiting-short : (exchange i : ℕ) (book p : List ℕ) (k : ℕ) → Item exchange p → k < transformCount p → transformSuits exchange i book p k ≡ true →
+    length (transform k p) ≤ 56
 suiting-short exchange i book p k item l h = suits-short (known-of exchange (getD p 5 0) (item .known)) i book p k (transform-lawful exchange p item k l) h
 
 -- ---- what the choice takes
@@ -136,10 +142,6 @@ module _ (exchange i : ℕ) (book p : List ℕ) (item : Item exchange p) (some :
   pub taken : (lowest exchange i book p - 1 < transformCount p) × (transformSuits exchange i book p (lowest exchange i book p - 1) ≡ true)
   taken = first-taken (lowest-is exchange i book p) (leb-true 1 (lowest exchange i book p) (transform-low exchange i book p some))
 
-  pub taken-by-number : transformNumbered (numberOf (lowest exchange i book p) p) p ≡ chosenIn exchange i book p
-  unfolding numberOf
-  taken-by-number = transform-by-number exchange p item (lowest exchange i book p - 1) (taken .0)
-
 -- "its protocols are exactly the line's": one proposal, or one for AH and one for ESP
 pub record Pair (s : List ℕ) : Type 0 where
   pub two : proposalCount s ≡ 2
@@ -155,9 +157,17 @@ module _ (s : List ℕ) where
       let outer = both (eqb (proposalCount s) 2) (eqb a 2 && eqb b 3 || eqb a 3 && eqb b 2) h in
       by-test (eqb a 2 && eqb b 3)
       (λ e. let two = both (eqb a 2) (eqb b 3) e in
-      record { two = eqb-true _ _ (outer .0); other = λ x. omega (arith, eqb-true a 2 (two .0), eqb-true b 3 (two .1)); quick = λ x. omega (arith, eqb-true a 2 (two .0)) })
+      record {
+        two = eqb-true _ _ (outer .0);
+        other = λ x. omega (arith, eqb-true a 2 (two .0), eqb-true b 3 (two .1));
+        quick = λ x. omega (arith, eqb-true a 2 (two .0));
+      })
       (λ e. let two = both (eqb a 3) (eqb b 2) (rw e at outer .1) in
-      record { two = eqb-true _ _ (outer .0); other = λ x. omega (arith, eqb-true a 3 (two .0), eqb-true b 2 (two .1)); quick = λ x. omega (arith, eqb-true a 3 (two .0)) })
+      record {
+        two = eqb-true _ _ (outer .0);
+        other = λ x. omega (arith, eqb-true a 3 (two .0), eqb-true b 2 (two .1));
+        quick = λ x. omega (arith, eqb-true a 3 (two .0));
+      })
 
   single : (wanted : ℕ) → protocolsAlone wanted s ≡ true → proposalCount s ≡ 1
   unfolding protocolsAlone
