@@ -1,5 +1,5 @@
 -- What a message that reads consists of: its payloads one behind the other from byte 28 on, an SA payload among them with a body that reads.
--- And when a message of one SA payload reads.
+-- That no refusal has the number 0. And when a message of one SA payload reads.
 use Prim.Native.Nat.{ℕ, zero, suc, _+_, _≤_, _<_}
 use mathlib.Core.Path.{_≡_, refl, sym, ap}
 use mathlib.Core.List.{List, [], _∷_}
@@ -9,8 +9,8 @@ use native.Mathlib.Nat.{add-zero}
 use lib.ListN.{length, getD, drop, length-drop}
 use lib.Seq.{getD-drop, drop-drop, drop-length}
 use lib.Dec.{eqb}
-use borrow.Author.Tests.{eqb-true, not-false}
-use Rattle.wire_read.specs.Wire.{numberAt}
+use borrow.Author.Tests.{eqb-true, eqb-false, not-true, not-false}
+use Rattle.wire_read.specs.Wire.{numberAt, nextField, lengthField}
 use Rattle.wire_read.specs.Tests.{if_then_else_}
 use Rattle.wire_read.proofs.Tests.{never}
 use Rattle.wire_read.proofs.Laws.{number-drop}
@@ -21,7 +21,7 @@ use Rattle.message_payload.proofs.Laws.{payload-within, payload-offer, sa-paylo
 use Rattle.message_payload.specs.Payloads.{bodyOf, payloadCode, restCode}
 use Rattle.message_chain.specs.Message.{Reading, refused, payloads, inFront, chain, reading, nth, exchangeAndCount, message, walk}
 use Rattle.message_chain.specs.declared.Payload.{Payload}
-use Rattle.message_chain.specs.declared.Message.the-variants.{Read}
+use Rattle.message_chain.specs.declared.Message.the-variants.{Refused, Read}
 
 -- ---- the walk
 
@@ -189,6 +189,58 @@ read-of m exchange count (payloads ps) e f =
 pub read-as : (m : List ℕ) (exchange count : ℕ) → message m ≡ Read exchange count → ReadAs m exchange count
 unfolding message
 read-as m exchange count h = read-of m exchange count (reading m) refl h
+
+-- ---- no refusal has the number 0
+
+-- the number of a refusal; 1 for what is none
+numberOf : Reading → ℕ
+numberOf (refused number) = number
+numberOf (payloads ps) = 1
+
+some : (code : ℕ) → not (eqb code 0) ≡ true → 0 < code
+some code h = omega (arith, eqb-false code 0 (not-true (eqb code 0) h))
+
+front-some : (p : Payload) (r : Reading) → 0 < numberOf r → 0 < numberOf (inFront p r)
+unfolding inFront numberOf
+front-some p (refused number) h = h
+front-some p (payloads ps) h = h
+
+pick-some : (wrong : Bool) (number : ℕ) (r : Reading) → (wrong ≡ true → 0 < number) → 0 < numberOf r → 0 < numberOf (if wrong then refused number else r)
+unfolding numberOf
+pick-some true number r f h = f refl
+pick-some false number r f h = h
+
+end-some : (more wrong : Bool) (next : Reading) (number : ℕ) → 0 < numberOf next → (wrong ≡ true → 0 < number) →
+    0 < numberOf (if more then next else if wrong then refused number else payloads [])
+unfolding numberOf
+end-some true wrong next number h f = h
+end-some false true next number h f = f refl
+end-some false false next number h f = omega arith
+
+chain-some : (left exchange flags : ℕ) (offered : Bool) (type start : ℕ) (s : List ℕ) → 0 < numberOf (chain left exchange flags offered type start s)
+unfolding chain
+chain-some zero exchange flags offered type start s = unfold numberOf in omega arith
+chain-some (suc left) exchange flags offered type start s =
+    let n : ℕ = lengthField s in
+    let code : ℕ = payloadCode exchange offered type s in
+    let rest : ℕ = restCode flags (drop n s) in
+    let next : Reading = chain left exchange flags (offered || eqb type 1) (nextField s) (start + n) (drop n s) in
+    let next-some = chain-some left exchange flags (offered || eqb type 1) (nextField s) (start + n) (drop n s) in
+    let behind = end-some (not (eqb (nextField s) 0)) (not (eqb rest 0)) next rest next-some (some rest) in
+    pick-some (not (eqb code 0)) code _ (some code) (front-some (record { payloadtype = type; start = start; length = n }) _ behind)
+
+reading-some : (m : List ℕ) → 0 < numberOf (reading m)
+unfolding reading
+reading-some m = pick-some _ (headerCode m) _ (some (headerCode m)) (chain-some 32 (exchangeOf m) (flagsOf m) false (firstPayload m) 28 (drop 28 m))
+
+answer-some : (exchange : ℕ) (r : Reading) → 0 < numberOf r → (number : ℕ) → exchangeAndCount exchange 0 r ≡ Refused number → 0 < number
+unfolding exchangeAndCount numberOf
+answer-some exchange (refused n) h number e = let same : n ≡ number = cc in omega arith
+answer-some exchange (payloads ps) h number e = never (cc)
+
+pub refusal-some : (m : List ℕ) (number : ℕ) → message m ≡ Refused number → 0 < number
+unfolding message
+refusal-some m number e = answer-some (exchangeOf m) (reading m) (reading-some m) number e
 
 -- ---- a message of one SA payload
 

@@ -1,5 +1,5 @@
 -- The SA payload of a message that reads, and what was chosen in it: the number of the chosen set finds the set.
-use Prim.Native.Nat.{ℕ, zero, suc, _+_, _-_, _<_}
+use Prim.Native.Nat.{ℕ, zero, suc, _+_, _-_, _≤_, _<_}
 use mathlib.Core.Path.{_≡_, refl, sym, ap, _∙_}
 use mathlib.Core.List.{List}
 use native.Mathlib.Omega.{arith}
@@ -9,7 +9,7 @@ use lib.Dec.{eqb}
 use borrow.Author.Tests.{eqb-true, eqb-false}
 use Rattle.wire_read.specs.Wire.{numberAt}
 use Rattle.wire_read.proofs.Tests.{never, by-test}
-use Rattle.wire_read.proofs.Laws.{number-drop}
+use Rattle.wire_read.proofs.Laws.{number-drop, take-within, drop-within}
 use Rattle.sa_proposals.specs.Proposals.{offerCode}
 use Rattle.sa_fields.specs.Fields.{proposalNumber}
 use Rattle.sa_sets.specs.Sets.{set, setCount, setNumbered}
@@ -37,6 +37,18 @@ use Rattle.policy_choice.specs.declared.Choice.the-variants.{Refused, Ch
 use Rattle.policy_choice.specs.declared.Transforms.{Transforms}
 use Rattle.policy_choice.specs.Choice.{numberOf, transformsOf, chosen, chooseFrom, lineCount, bodyAt, saFrom, messageChoice, bookChoice, choice}
 use Rattle.policy_choice.proofs.Laws.{Choosing, fourteen, chose, choosing}
+
+-- ---- a payload's body lies within its message
+
+pub body-within : (k : ℕ) (m : List ℕ) → length (bodyAt k m) ≤ length m
+unfolding bodyAt
+body-within k m =
+    omega (
+      arith,
+      drop-within 4 (take (payloadAt k m .length) (drop (payloadAt k m .start) m)),
+      take-within (payloadAt k m .length) (drop (payloadAt k m .start) m),
+      drop-within (payloadAt k m .start) m,
+    )
 
 -- ---- the SA payload of a message that reads
 

@@ -26,7 +26,8 @@ module _ (s p q : List ℕ) (count : ℕ) (ep : p ≡ proposal 0 s) (ec : count 
     unfolding transformsIn
     transforms-one h = rw (← ec, eq-eqb count 1 h, ← ep, ← et, ← ef)
 
-    pub transforms-two : (count ≡ 1 → ⊥) → q ≡ proposal 1 s → (u : List ℕ) → u ≡ transform 0 q → (second : TransformNumber) → second ≡ transformNumber u → Two first second ≡ transformsIn s
+    pub transforms-two : (count ≡ 1 → ⊥) → q ≡ proposal 1 s → (u : List ℕ) → u ≡ transform 0 q → (second : TransformNumber) → second ≡ transformNumber u →
+        Two first second ≡ transformsIn s
     unfolding transformsIn
     transforms-two h eq u eu second es = rw (← ec, ne-eqb count 1 h, ← ep, ← et, ← ef, ← eq, ← eu, ← es)
 
@@ -35,6 +36,7 @@ module _ (s p q : List ℕ) (count : ℕ) (ep : p ≡ proposal 0 s) (ec : count 
     unfolding ownSpis
     own-alone h = rw (← ec, eq-eqb count 1 h, ← ep, ← ek, ← ef)
 
-    pub own-both : (count ≡ 1 → ⊥) → q ≡ proposal 1 s → (other second : ℕ) → other ≡ protocol q → second ≡ spiFor ah esp other → Both first second ≡ ownSpis ah esp s
+    pub own-both : (count ≡ 1 → ⊥) → q ≡ proposal 1 s → (other second : ℕ) → other ≡ protocol q → second ≡ spiFor ah esp other →
+        Both first second ≡ ownSpis ah esp s
     unfolding ownSpis
     own-both h eq other second eo es = rw (← ec, ne-eqb count 1 h, ← ep, ← ek, ← ef, ← eq, ← eo, ← es)

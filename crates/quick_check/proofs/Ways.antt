@@ -60,17 +60,22 @@ module _ (own : Own) (state : State) (id exchange count : ℕ) (m : List ℕ) wh
             module _ (shaped : found ≡ 0 → ⊥) where
               pub quick-long : 2048 < length m → 30 ≡ quickCode own state id exchange count m
               unfolding quickCode
-              quick-long h = rw (eq-eqb exchange 32 quick, ← ef, eq-eqb flags 1 flagged, ← er, ← ei, answers, ← ew, known, ← et, same, ← es, ne-eqb found 0 shaped, lt-ltb 2048 (length m) h)
+              quick-long h =
+                  rw (eq-eqb exchange 32 quick, ← ef, eq-eqb flags 1 flagged, ← er, ← ei, answers, ← ew, known, ← et, same, ← es)
+                  (rw (ne-eqb found 0 shaped, lt-ltb 2048 (length m) h))
 
               pub quick-passed : length m ≤ 2048 → 0 ≡ quickCode own state id exchange count m
               unfolding quickCode
-              quick-passed h = rw (eq-eqb exchange 32 quick, ← ef, eq-eqb flags 1 flagged, ← er, ← ei, answers, ← ew, known, ← et, same, ← es, ne-eqb found 0 shaped, le-ltb 2048 (length m) h)
+              quick-passed h =
+                  rw (eq-eqb exchange 32 quick, ← ef, eq-eqb flags 1 flagged, ← er, ← ei, answers, ← ew, known, ← et, same, ← es)
+                  (rw (ne-eqb found 0 shaped, le-ltb 2048 (length m) h))
 
 module _ (own : Own) (state : State) (id : ℕ) (m : List ℕ) (read : Message) where
   pub read-refused : (number : ℕ) → read ≡ Refused number → number ≡ readCode own state id m read
   unfolding readCode
   read-refused number h = rw h
 
-  pub read-checked : (exchange count : ℕ) → read ≡ Read exchange count → (r : ℕ) → r ≡ quickCode own state id exchange count m → r ≡ readCode own state id m read
+  pub read-checked : (exchange count : ℕ) → read ≡ Read exchange count → (r : ℕ) → r ≡ quickCode own state id exchange count m →
+      r ≡ readCode own state id m read
   unfolding readCode
   read-checked exchange count h r e = rw h e

@@ -22,7 +22,8 @@ pub record Lawful (icookie rcookie : ℕ) (book : List ℕ) (ah esp : ℕ) (nonc
   pub nonce-long : 8 ≤ length nonce
   pub nonce-short : length nonce ≤ 256
 
-pub fresh-lawful : (icookie rcookie : ℕ) (book : List ℕ) (ah esp : ℕ) (nonce : List ℕ) → freshCode icookie rcookie book ah esp nonce ≡ 0 → Lawful icookie rcookie book ah esp nonce
+pub fresh-lawful : (icookie rcookie : ℕ) (book : List ℕ) (ah esp : ℕ) (nonce : List ℕ) → freshCode icookie rcookie book ah esp nonce ≡ 0 →
+    Lawful icookie rcookie book ah esp nonce
 unfolding freshCode
 fresh-lawful icookie rcookie book ah esp nonce h =
     let cookies = passed (eqb icookie 0 || eqb rcookie 0) 4 _ (λ z. omega arith) h in

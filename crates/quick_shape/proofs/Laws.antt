@@ -1,4 +1,5 @@
--- "Equal" messages, equal apart from the 32 hash bytes: the parts that are the same, and that it is an equivalence.
+-- The shape of a message that was read. And "equal" messages, equal apart from the 32 hash bytes: the parts that are the same, and that it
+-- is an equivalence.
 use Prim.Native.Nat.{ℕ}
 use mathlib.Core.Path.{_≡_, refl, sym, _∙_}
 use mathlib.Core.List.{List}
@@ -9,7 +10,13 @@ use borrow.Author.Tests.{eqb-true, eq-eqb}
 use Rattle.wire_read.specs.Wire.{equal}
 use Rattle.wire_read.proofs.Tests.{both}
 use Rattle.wire_read.proofs.Laws.{equal-same, equal-true}
-use Rattle.quick_shape.specs.Shapes.{alike}
+use Rattle.message_chain.specs.Message.{message}
+use Rattle.message_chain.specs.declared.Message.{Message}
+use Rattle.quick_shape.specs.Shapes.{shape, countOf, shapeOf, alike}
+
+pub shape-found : (m : List ℕ) (read : Message) → read ≡ message m → (count found : ℕ) → count ≡ countOf read → found ≡ shape count m → found ≡ shapeOf m
+unfolding shapeOf
+shape-found m read em count found en ef = rw (← em, ← en) ef
 
 -- what equal messages share
 pub record Alike (m n : List ℕ) : Type 0 where

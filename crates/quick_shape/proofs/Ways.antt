@@ -13,7 +13,8 @@ use Rattle.quick_shape.specs.Shapes.{typeIs, shape, isLonger, nonceRead,
 
 -- ---- shape
 
-module _ (count : ℕ) (m : List ℕ) (k1 k2 k3 k4 k0 : Bool) (e1 : k1 ≡ typeIs 1 m 1) (e2 : k2 ≡ typeIs 2 m 10) (e3 : k3 ≡ typeIs 3 m 5) (e4 : k4 ≡ typeIs 4 m 5) (e0 : k0 ≡ typeIs 0 m 8) where
+module _ (count : ℕ) (m : List ℕ) (k1 k2 k3 k4 k0 : Bool) (e1 : k1 ≡ typeIs 1 m 1) (e2 : k2 ≡ typeIs 2 m 10) (e3 : k3 ≡ typeIs 3 m 5)
+    (e4 : k4 ≡ typeIs 4 m 5) (e0 : k0 ≡ typeIs 0 m 8) where
   pub shape-known : (k0 && (eqb count 1 || k1 && k2 && (eqb count 3 || eqb count 5 && k3 && k4))) ≡ true → count ≡ shape count m
   unfolding shape
   shape-known h = rw (← e0, ← e1, ← e2, ← e3, ← e4, h)
@@ -29,7 +30,8 @@ module _ (m r : List ℕ) (c : Message) (ec : c ≡ message m) where
   unfolding nonceIn nonceRead
   nonce-refused number h e = rw (← ec, h) e
 
-  module _ (exchange count : ℕ) (readable : c ≡ Read exchange count) (found : ℕ) (es : found ≡ shape count m) (longer : Bool) (el : longer ≡ isLonger found) where
+  module _ (exchange count : ℕ) (readable : c ≡ Read exchange count) (found : ℕ) (es : found ≡ shape count m) (longer : Bool)
+      (el : longer ≡ isLonger found) where
     pub nonce-body : (eqb exchange 32 && longer) ≡ true → r ≡ bodyAt 2 m → r ≡ nonceIn m
     unfolding nonceIn nonceRead
     nonce-body h e = rw (← ec, readable, ← es, ← el, h) e

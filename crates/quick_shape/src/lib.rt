@@ -7,7 +7,7 @@ use wire_read::after;
 use wire_read::equal;
 use wire_read::front;
 ghost use mathlib.Core.Path.{_≡_};
-ghost use Rattle.quick_shape.specs.Shapes.{typeIs, shape, isLonger, alike, countOf, shapeOf, nonceRead, nonceIn, nonce};
+ghost use Rattle.quick_shape.specs.Shapes.{typeIs, shape, isLonger, alike, countOf, shapeOf, nonceIn, nonce};
 
 fn type_is(k: u8, m: &[u8], payloadtype: u8) -> bool
     ensures { λ r. ⌜ r ≡ typeIs k (now (m .entry)) payloadtype ⌝ }

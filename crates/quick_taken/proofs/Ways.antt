@@ -8,7 +8,8 @@ use Rattle.sa_sets.specs.Sets.{setCount}
 use Rattle.policy_choice.specs.Choice.{bodyAt}
 use Rattle.quick_taken.specs.Taken.{setTaken, repliedSet, offeredSet, identitiesSame, takenCode}
 
-module _ (found : ℕ) (sent m body s offered : List ℕ) (count : ℕ) (taken : Bool) (eb : body ≡ bodyAt 1 m) (ec : count ≡ setCount body) (es : s ≡ repliedSet m) (eo : offered ≡ offeredSet sent m) (et : taken ≡ setTaken s offered) where
+module _ (found : ℕ) (sent m body s offered : List ℕ) (count : ℕ) (taken : Bool) (eb : body ≡ bodyAt 1 m) (ec : count ≡ setCount body)
+    (es : s ≡ repliedSet m) (eo : offered ≡ offeredSet sent m) (et : taken ≡ setTaken s offered) where
   pub taken-other : not (eqb count 1 && taken) ≡ true → 15 ≡ takenCode found sent m
   unfolding takenCode
   taken-other h = rw (← eb, ← ec, ← es, ← eo, ← et, h)
