@@ -15,10 +15,11 @@ use Rattle.identity.specs.Identity.{identityCode, lawful, quickData}
 use Rattle.quick_write.specs.Messages.{bookOf, lines, longer, proposalsOf, longerInto, messageOne}
 use Rattle.quick_write.proofs.Laws.{longer-fits}
 use Rattle.quick_end.specs.Fresh.{isIdle, isInitiator, isGivenUp}
-use Rattle.quick_step.specs.Steps.{small}
+use Rattle.quick_step.specs.Steps.{small, afterStep, stepped, withProgress}
 use Rattle.quick_begin.specs.Begin.{identitiesWrong, beginCode, begun}
 use Rattle.quick_end.specs.declared.State.the-variants.{Sent}
 use Rattle.quick_write.specs.declared.Proposals.the-variants.{Offer}
+use Rattle.quick_end.specs.declared.Progress.{Progress}
 use Rattle.quick_end.specs.declared.End.{End}
 use Rattle.quick_step.specs.declared.StepAnswer.the-variants.{Send, Refused}
 
@@ -49,9 +50,12 @@ wrong-few : (first second : List ℕ) → identitiesWrong first second ≡ false
 unfolding identitiesWrong
 wrong-few first second h =
     by-test (eqb (length first) 0 && eqb (length second) 0)
-    (λ e. let none = both (eqb (length first) 0) (eqb (length second) 0) e in (omega (arith, eqb-true (length first) 0 (none .0)), omega (arith, eqb-true (length second) 0 (none .1))))
     (λ e.
-    let two = both (eqb (identityCode 32 first) 0) (eqb (identityCode 32 second) 0) (not-false (eqb (identityCode 32 first) 0 && eqb (identityCode 32 second) 0) (rw e at h)) in
+    let none = both (eqb (length first) 0) (eqb (length second) 0) e in
+    (omega (arith, eqb-true (length first) 0 (none .0)), omega (arith, eqb-true (length second) 0 (none .1))))
+    (λ e.
+    let lawful-two = not-false (eqb (identityCode 32 first) 0 && eqb (identityCode 32 second) 0) (rw e at h) in
+    let two = both (eqb (identityCode 32 first) 0) (eqb (identityCode 32 second) 0) lawful-two in
     (identity-few first (eqb-true (identityCode 32 first) 0 (two .0)), identity-few second (eqb-true (identityCode 32 second) 0 (two .1))))
 
 -- ---- begin
@@ -100,23 +104,24 @@ module _ (e : End) (id : ℕ) (first second : List ℕ) (tight : Bool) where
         let named = passed (eqb id 0) 9 _ (λ z. omega arith) (may .1) in
         wrong-few first second (passed (identitiesWrong first second) 18 _ (λ z. omega arith) (named .1) .0)
 
-module _ (e : End) (id : ℕ) (first second sent got output : List ℕ) (tight : Bool) (et : tight ≡ small sent got output) (code : ℕ) (ec : code ≡ beginCode e id first second tight) where
-  pub begin-refused : (code ≡ 0 → ⊥) → begun e id first second sent got output ≡ record { step = record { end = e; answer = Refused code }; sent = sent; got = got; output = output }
+module _ (e : End) (id : ℕ) (first second sent got output : List ℕ) (tight : Bool) (et : tight ≡ small sent got output) (code : ℕ)
+    (ec : code ≡ beginCode e id first second tight) where
+  pub begin-refused : (code ≡ 0 → ⊥) → begun e id first second sent got output ≡ afterStep (stepped e (Refused code)) sent got output
   unfolding begun
   begin-refused h = rw (← et, ← ec, ne-eqb code 0 h)
 
+  -- the record of an end that has sent message 1
+  abbrev sent-at : (size : ℕ) → Progress
+  sent-at size = record { state = Sent; sends = 1; id = id; sentsize = size; gotsize = e .progress .gotsize; agreed = e .progress .agreed }
+
   pub begin-sent : code ≡ 0 → (none b c : List ℕ) (n k : ℕ) → none ≡ take 0 first →
       longerInto sent (e .own) id Offer none first second ≡ (n, b) → longerInto output (e .own) id Offer none first second ≡ (k, c) →
-      begun e id first second sent got output ≡ record {
-        step = record { end = record { own = e .own; progress = record { state = Sent; sends = 1; id = id; sentsize = k; gotsize = e .progress .gotsize; agreed = e .progress .agreed } }; answer = Send k };
-        sent = b;
-        got = got;
-        output = c;
-      }
+      begun e id first second sent got output ≡ afterStep (stepped (withProgress (sent-at k) e) (Send k)) b got c
   unfolding begun messageOne proposalsOf
   begin-sent h none b c n k en eb ek =
       let short = few e id first second tight code ec h in
-      let written : (l : List ℕ) → longerInto l (e .own) id Offer none first second ≡ put l 0 (longer (e .own) id (proposalsOf (e .own) Offer none) first second) =
+      let m : List ℕ = longer (e .own) id (proposalsOf (e .own) Offer none) first second in
+      let written : (l : List ℕ) → longerInto l (e .own) id Offer none first second ≡ put l 0 m =
       λ l. longer-fits l (e .own) id Offer none first second (omega (arith, ap length en)) (omega (arith, short .0)) (omega (arith, short .1)) in
       let to-output = sym (written output) ∙ ek in
       let size = put-size output c 0 k _ to-output in

@@ -18,9 +18,9 @@ identitiesWrong first second =
     not (eqb (length first) 0 && eqb (length second) 0 || eqb (identityCode 32 first) 0 && eqb (identityCode 32 second) 0)
 
 -- "8192, 8196, not an Idle initiator 8195, 9, 18, no quick lines 14"
-unfoldable pub beginCode : (end : End) (id : ℕ) (first second : Bytes) (isSmall : Bool) → Code
-beginCode end id first second isSmall =
-    if isSmall then 8192
+unfoldable pub beginCode : (end : End) (id : ℕ) (first second : Bytes) (tight : Bool) → Code
+beginCode end id first second tight =
+    if tight then 8192
     else if isGivenUp (end .progress .state) then 8196
     else if not (isInitiator (end .own .role) && isIdle (end .progress .state)) then 8195
     else if eqb id 0 then 9

@@ -14,7 +14,7 @@ use quick_write::lines;
 use quick_write::put_longer;
 use wire_read::front;
 ghost use mathlib.Core.Path.{_≡_};
-ghost use Rattle.quick_step.specs.Steps.{After};
+ghost use Rattle.quick_step.specs.Steps.{afterStep};
 ghost use Rattle.quick_begin.specs.Begin.{identitiesWrong, beginCode, begun};
 
 fn identities_wrong(first: &[u8], second: &[u8]) -> bool
@@ -63,7 +63,8 @@ pub fn begin(
     got: &[u8],
     output: &mut [u8],
 ) -> Stepped
-    ensures { λ r. ⌜ begun end id (now (first .entry)) (now (second .entry)) (now (sent .entry)) (now (got .entry)) (now (output .entry)) ≡ record { step = r; sent = now (sent .exit); got = now (got .entry); output = now (output .exit) } ⌝ }
+    ensures { λ r. ⌜ begun end id (now (first .entry)) (now (second .entry)) (now (sent .entry)) (now (got .entry)) (now (output .entry)) ≡
+        afterStep r (now (sent .exit)) (now (got .entry)) (now (output .exit)) ⌝ }
 {
     let code = begin_code(end, id, first, second, small(sent, got, output));
     if code != 0 {

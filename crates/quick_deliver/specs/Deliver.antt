@@ -1,5 +1,5 @@
 -- A delivery, document 01, "Quick mode ends": what it answers, and the record and the lent buffers after it.
-use Prim.Native.Nat.{ℕ, min}
+use Prim.Native.Nat.{ℕ}
 use mathlib.Core.List.{[]}
 use mathlib.Core.Bool.{Bool, not, _||_}
 use lib.ListN.{length}
@@ -24,26 +24,34 @@ use Rattle.quick_agreed.specs.Agreed.{spisOf, ownSpis}
 use Rattle.quick_step.specs.Steps.{After, small, kept, withState, refusing, nothing, repeating, sending}
 use Rattle.quick_end.specs.declared.State.{State}
 use Rattle.quick_end.specs.declared.State.the-variants.{Idle, Sent, Half, Open, GivenUp}
+use Rattle.quick_end.specs.declared.Own.{Own}
+use Rattle.quick_end.specs.declared.Agreed.{Agreed}
 use Rattle.quick_end.specs.declared.End.{End}
-use Rattle.quick_step.specs.declared.StepAnswer.the-variants.{Send, Refused}
-use Rattle.quick_step.specs.declared.Stepped.{Stepped}
 
--- "8192, 23, 8196, reading, .."; holds is what the caller says of the hash
-unfoldable pub deliveryCode : (end : End) (holds : Bool) (m : Bytes) (isSmall : Bool) → Code
-deliveryCode end holds m isSmall =
-    if isSmall then 8192
+-- "8192, 23, 8196", and then the rest; holds is what the caller says of the hash
+abbrev pub earlyCode : (tight holds givenUp : Bool) (rest : Code) → Code
+earlyCode tight holds givenUp rest =
+    if tight then 8192
     else if not holds then 23
-    else if isGivenUp (end .progress .state) then 8196
-    else readCode (end .own) (end .progress .state) (end .progress .id) m (message m)
+    else if givenUp then 8196
+    else rest
 
--- sending the kept message again: the answer and the output
-unfoldable pub repeated : (end : End) (sent output : Bytes) → Stepped × Bytes
-repeated end sent output =
-    (record { end = end; answer = Send (min (end .progress .sentsize) 2048) }, paste output 0 (kept (end .progress .sentsize) sent))
+-- "8192, 23, 8196, reading, .."
+unfoldable pub deliveryCode : (end : End) (holds : Bool) (m : Bytes) (tight : Bool) → Code
+deliveryCode end holds m tight =
+    earlyCode tight holds (isGivenUp (end .progress .state)) (readCode (end .own) (end .progress .state) (end .progress .id) m (message m))
 
 -- the identities of a message, to be repeated: its payloads 3 and 4, no bytes where it has none
 unfoldable pub identityAt : (k : ℕ) (m : Bytes) → Bytes
 identityAt k m = if eqb (shapeOf m) 5 then bodyAt k m else []
+
+-- the message 2 that answers message 1, its message ID taken and its identities repeated; s is the chosen set
+abbrev pub messageTwoTo : (m : Bytes) (own : Own) (transforms : Transforms) (s : Bytes) → Bytes
+messageTwoTo m own transforms s = messageTwo own (messageIdOf m) transforms s (identityAt 3 m) (identityAt 4 m)
+
+-- what message 1 agrees on once a set was chosen
+abbrev pub agreedOne : (own : Own) (number : ProposalNumber) (transforms : Transforms) (s : Bytes) → Agreed
+agreedOne own number transforms s = record { set = number; transforms = transforms; initiator = spisOf s; responder = ownSpis (own .ah) (own .esp) s }
 
 module _ (end : End) (m sent got output : Bytes) where
   -- the messages that are kept
@@ -83,14 +91,14 @@ module _ (end : End) (m sent got output : Bytes) where
   -- "Half and message 2 (identities repeated), one send"; got takes message 1, whose message ID is taken
   unfoldable pub halfway : (number : ProposalNumber) (transforms : Transforms) (s : Bytes) → After
   halfway number transforms s =
-      sending end sent got output (messageTwo (end .own) (messageIdOf m) transforms s (identityAt 3 m) (identityAt 4 m))
+      sending end sent got output (messageTwoTo m (end .own) transforms s)
       (record {
         state = Half;
         sends = 1;
         id = messageIdOf m;
-        sentsize = length (messageTwo (end .own) (messageIdOf m) transforms s (identityAt 3 m) (identityAt 4 m));
+        sentsize = length (messageTwoTo m (end .own) transforms s);
         gotsize = length m;
-        agreed = record { set = number; transforms = transforms; initiator = spisOf s; responder = ownSpis (end .own .ah) (end .own .esp) s };
+        agreed = agreedOne (end .own) number transforms s;
       })
       (paste got 0 m)
 

@@ -34,26 +34,21 @@ use wire_read::be32;
 use wire_read::front;
 use wire_write::put_bytes;
 ghost use mathlib.Core.Path.{_≡_};
-ghost use mathlib.Core.Bool.{not};
 ghost use Prim.Native.Nat.{_≤_};
 ghost use lib.ListN.{length};
-ghost use Rattle.wire_read.specs.Wire.{numberAt};
 ghost use Rattle.wire_write.specs.Put.{put};
-ghost use Rattle.wire_read.specs.Tests.{if_then_else_};
 ghost use Rattle.quick_step.specs.declared.StepAnswer.the-variants.{Refused};
 ghost use Rattle.quick_end.specs.declared.State.the-variants.{Idle, Sent, Half};
 ghost use Rattle.sa_sets.specs.Sets.{setNumbered};
 ghost use Rattle.policy_choice.specs.Choice.{bodyAt};
-ghost use Rattle.quick_write.specs.Messages.{messageTwo};
 ghost use Rattle.quick_shape.specs.Shapes.{shapeOf};
-ghost use Rattle.quick_agreed.specs.Agreed.{spisOf, ownSpis};
 ghost use Rattle.quick_end.specs.Fresh.{isGivenUp};
-ghost use Rattle.quick_step.specs.Steps.{After};
-ghost use Rattle.quick_deliver.specs.Deliver.{opened, repeated, atInitiator, identityAt, halfway, afterChoice, atResponder, delivered};
+ghost use Rattle.quick_step.specs.Steps.{afterStep, stepped, repeatedStep, repeatedOutput};
+ghost use Rattle.quick_deliver.specs.Deliver.{earlyCode, opened, atInitiator, identityAt, messageTwoTo, agreedOne, halfway, afterChoice, atResponder, delivered};
 
 // The checks before the reading: 0, or the refusal.
 fn early_code(state: State, holds: bool, tight: bool) -> u16
-    ensures { λ r. ⌜ r ≡ (if tight then 8192 else if not holds then 23 else if isGivenUp state then 8196 else 0) ⌝ }
+    ensures { λ r. ⌜ r ≡ earlyCode tight holds (isGivenUp state) 0 ⌝ }
 {
     if tight {
         return 8192;
@@ -68,7 +63,7 @@ fn early_code(state: State, holds: bool, tight: bool) -> u16
 }
 
 fn refuse(end: End, number: u16) -> Stepped
-    ensures { λ r. ⌜ r ≡ record { end = end; answer = Refused number } ⌝ }
+    ensures { λ r. ⌜ r ≡ stepped end (Refused number) ⌝ }
 {
     Stepped {
         end,
@@ -78,7 +73,7 @@ fn refuse(end: End, number: u16) -> Stepped
 
 // Sends the kept message again.
 fn repeat(end: End, sent: &[u8], output: &mut [u8]) -> Stepped
-    ensures { λ r. ⌜ repeated end (now (sent .entry)) (now (output .entry)) ≡ (r, now (output .exit)) ⌝ }
+    ensures { λ r. ⌜ (r ≡ repeatedStep (end .progress) end) × (now (output .exit) ≡ repeatedOutput end (now (sent .entry)) (now (output .entry))) ⌝ }
 {
     let progress = end.progress;
     put_bytes(output, 0, kept(progress.sentsize, sent));
@@ -91,7 +86,8 @@ fn repeat(end: End, sent: &[u8], output: &mut [u8]) -> Stepped
 // Message 2 was taken: the initiator opens, and writes message 3.
 fn open(end: End, m: &[u8], sent: &mut [u8], got: &mut [u8], output: &mut [u8]) -> Stepped
     requires { ⌜ length (now m) ≤ 2048 ⌝ }
-    ensures { λ r. ⌜ opened end (now (m .entry)) (now (sent .entry)) (now (got .entry)) (now (output .entry)) ≡ record { step = r; sent = now (sent .exit); got = now (got .exit); output = now (output .exit) } ⌝ }
+    ensures { λ r. ⌜ opened end (now (m .entry)) (now (sent .entry)) (now (got .entry)) (now (output .entry)) ≡
+        afterStep r (now (sent .exit)) (now (got .exit)) (now (output .exit)) ⌝ }
 {
     let own = end.own;
     let progress = end.progress;
@@ -125,7 +121,8 @@ fn take_two(
     output: &mut [u8],
 ) -> Stepped
     requires { ⌜ (length (now m) ≤ 2048) × (found ≡ shapeOf (now m)) ⌝ }
-    ensures { λ r. ⌜ atInitiator end (now (m .entry)) (now (sent .entry)) (now (got .entry)) (now (output .entry)) Sent ≡ record { step = r; sent = now (sent .exit); got = now (got .exit); output = now (output .exit) } ⌝ }
+    ensures { λ r. ⌜ atInitiator end (now (m .entry)) (now (sent .entry)) (now (got .entry)) (now (output .entry)) Sent ≡
+        afterStep r (now (sent .exit)) (now (got .exit)) (now (output .exit)) ⌝ }
 {
     let progress = end.progress;
     if !is_longer(found) {
@@ -147,7 +144,8 @@ fn at_initiator(
     output: &mut [u8],
 ) -> Stepped
     requires { ⌜ (length (now m) ≤ 2048) × (found ≡ shapeOf (now m)) ⌝ }
-    ensures { λ r. ⌜ atInitiator end (now (m .entry)) (now (sent .entry)) (now (got .entry)) (now (output .entry)) (end .progress .state) ≡ record { step = r; sent = now (sent .exit); got = now (got .exit); output = now (output .exit) } ⌝ }
+    ensures { λ r. ⌜ atInitiator end (now (m .entry)) (now (sent .entry)) (now (got .entry)) (now (output .entry)) (end .progress .state) ≡
+        afterStep r (now (sent .exit)) (now (got .exit)) (now (output .exit)) ⌝ }
 {
     let progress = end.progress;
     let state = progress.state;
@@ -178,7 +176,7 @@ fn identity_at(k: u8, m: &[u8], found: u8) -> &[u8]
 
 // What message 1 agrees on once a set was chosen.
 fn agreed_one(own: Own, number: ProposalNumber, transforms: Transforms, set: &[u8]) -> Agreed
-    ensures { λ r. ⌜ r ≡ record { set = number; transforms = transforms; initiator = spisOf (now (set .entry)); responder = ownSpis (own .ah) (own .esp) (now (set .entry)) } ⌝ }
+    ensures { λ r. ⌜ r ≡ agreedOne own number transforms (now (set .entry)) ⌝ }
 {
     let initiator = spis_of(set);
     let responder = own_spis(own.ah, own.esp, set);
@@ -200,7 +198,7 @@ fn put_two(
     found: u8,
 ) -> u16
     requires { ⌜ (length (now set) ≤ 2048) × (length (now m) ≤ 2048) × (found ≡ shapeOf (now m)) ⌝ }
-    ensures { λ r. ⌜ put (now (buffer .entry)) 0 (messageTwo own (numberAt 4 (now (m .entry)) 20) transforms (now (set .entry)) (identityAt 3 (now (m .entry))) (identityAt 4 (now (m .entry)))) ≡ (r, now (buffer .exit)) ⌝ }
+    ensures { λ r. ⌜ put (now (buffer .entry)) 0 (messageTwoTo (now (m .entry)) own transforms (now (set .entry))) ≡ (r, now (buffer .exit)) ⌝ }
 {
     let id = be32(m, 20);
     let first = identity_at(3, m, found);
@@ -221,7 +219,9 @@ fn be_half(
     output: &mut [u8],
 ) -> Stepped
     requires { ⌜ (length (now m) ≤ 2048) × (found ≡ shapeOf (now m)) ⌝ }
-    ensures { λ r. ⌜ halfway end (now (m .entry)) (now (sent .entry)) (now (got .entry)) (now (output .entry)) number transforms (setNumbered number (bodyAt 1 (now (m .entry)))) ≡ record { step = r; sent = now (sent .exit); got = now (got .exit); output = now (output .exit) } ⌝ }
+    ensures { λ r. ⌜ halfway end (now (m .entry)) (now (sent .entry)) (now (got .entry)) (now (output .entry)) number transforms
+        (setNumbered number (bodyAt 1 (now (m .entry)))) ≡
+        afterStep r (now (sent .exit)) (now (got .exit)) (now (output .exit)) ⌝ }
 {
     let own = end.own;
     let gotsize = m.len() as u16;
@@ -257,7 +257,8 @@ fn after_choice(
     output: &mut [u8],
 ) -> Stepped
     requires { ⌜ (length (now m) ≤ 2048) × (found ≡ shapeOf (now m)) ⌝ }
-    ensures { λ r. ⌜ afterChoice end (now (m .entry)) (now (sent .entry)) (now (got .entry)) (now (output .entry)) choice ≡ record { step = r; sent = now (sent .exit); got = now (got .exit); output = now (output .exit) } ⌝ }
+    ensures { λ r. ⌜ afterChoice end (now (m .entry)) (now (sent .entry)) (now (got .entry)) (now (output .entry)) choice ≡
+        afterStep r (now (sent .exit)) (now (got .exit)) (now (output .exit)) ⌝ }
 {
     match choice {
         Choice::Refused(number) => refuse(end, number),
@@ -277,7 +278,8 @@ fn answer_one(
     output: &mut [u8],
 ) -> Stepped
     requires { ⌜ (length (now m) ≤ 2048) × (found ≡ shapeOf (now m)) ⌝ }
-    ensures { λ r. ⌜ atResponder end (now (m .entry)) (now (sent .entry)) (now (got .entry)) (now (output .entry)) Idle ≡ record { step = r; sent = now (sent .exit); got = now (got .exit); output = now (output .exit) } ⌝ }
+    ensures { λ r. ⌜ atResponder end (now (m .entry)) (now (sent .entry)) (now (got .entry)) (now (output .entry)) Idle ≡
+        afterStep r (now (sent .exit)) (now (got .exit)) (now (output .exit)) ⌝ }
 {
     if !is_longer(found) {
         return refuse(end, 8195);
@@ -291,7 +293,8 @@ fn answer_one(
 // A message at a Half responder: message 1 again, or message 3.
 fn at_half(end: End, m: &[u8], found: u8, sent: &[u8], got: &[u8], output: &mut [u8]) -> Stepped
     requires { ⌜ found ≡ shapeOf (now m) ⌝ }
-    ensures { λ r. ⌜ atResponder end (now (m .entry)) (now (sent .entry)) (now (got .entry)) (now (output .entry)) Half ≡ record { step = r; sent = now (sent .entry); got = now (got .entry); output = now (output .exit) } ⌝ }
+    ensures { λ r. ⌜ atResponder end (now (m .entry)) (now (sent .entry)) (now (got .entry)) (now (output .entry)) Half ≡
+        afterStep r (now (sent .entry)) (now (got .entry)) (now (output .exit)) ⌝ }
 {
     let own = end.own;
     let progress = end.progress;
@@ -319,7 +322,8 @@ fn at_responder(
     output: &mut [u8],
 ) -> Stepped
     requires { ⌜ (length (now m) ≤ 2048) × (found ≡ shapeOf (now m)) ⌝ }
-    ensures { λ r. ⌜ atResponder end (now (m .entry)) (now (sent .entry)) (now (got .entry)) (now (output .entry)) (end .progress .state) ≡ record { step = r; sent = now (sent .exit); got = now (got .exit); output = now (output .exit) } ⌝ }
+    ensures { λ r. ⌜ atResponder end (now (m .entry)) (now (sent .entry)) (now (got .entry)) (now (output .entry)) (end .progress .state) ≡
+        afterStep r (now (sent .exit)) (now (got .exit)) (now (output .exit)) ⌝ }
 {
     let progress = end.progress;
     let state = progress.state;
@@ -349,7 +353,8 @@ pub fn deliver(
     got: &mut [u8],
     output: &mut [u8],
 ) -> Stepped
-    ensures { λ r. ⌜ delivered end holds (now (m .entry)) (now (sent .entry)) (now (got .entry)) (now (output .entry)) ≡ record { step = r; sent = now (sent .exit); got = now (got .exit); output = now (output .exit) } ⌝ }
+    ensures { λ r. ⌜ delivered end holds (now (m .entry)) (now (sent .entry)) (now (got .entry)) (now (output .entry)) ≡
+        afterStep r (now (sent .exit)) (now (got .exit)) (now (output .exit)) ⌝ }
 {
     let own = end.own;
     let role = own.role;

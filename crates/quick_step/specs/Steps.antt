@@ -39,30 +39,37 @@ withState state progress = record {
   agreed = progress .agreed;
 }
 
+-- what a call leaves, by its parts: the step, and the lent buffers after it
+abbrev pub afterStep : (step : Stepped) (sent got output : Bytes) → After
+afterStep step sent got output = record { step = step; sent = sent; got = got; output = output }
+
+abbrev pub stepped : (end : End) (answer : StepAnswer) → Stepped
+stepped end answer = record { end = end; answer = answer }
+
+-- the end with another progress
+abbrev pub withProgress : (progress : Progress) (end : End) → End
+withProgress progress end = record { own = end .own; progress = progress }
+
+-- "a repeat to output alone": what is answered, and the output
+abbrev pub repeatedStep : (progress : Progress) (end : End) → Stepped
+repeatedStep progress end = stepped (withProgress progress end) (Send (min (end .progress .sentsize) 2048))
+
+abbrev pub repeatedOutput : (end : End) (sent output : Bytes) → Bytes
+repeatedOutput end sent output = paste output 0 (kept (end .progress .sentsize) sent)
+
 module _ (end : End) (sent got output : Bytes) where
   abbrev pub refusing : (number : ℕ) → After
-  refusing number = record { step = record { end = end; answer = Refused number }; sent = sent; got = got; output = output }
+  refusing number = afterStep (stepped end (Refused number)) sent got output
 
   abbrev pub nothing : (progress : Progress) → After
-  nothing progress = record { step = record { end = record { own = end .own; progress = progress }; answer = Nothing }; sent = sent; got = got; output = output }
+  nothing progress = afterStep (stepped (withProgress progress end) Nothing) sent got output
 
-  -- "a repeat to output alone"
   abbrev pub repeating : (progress : Progress) → After
-  repeating progress = record {
-    step = record { end = record { own = end .own; progress = progress }; answer = Send (min (end .progress .sentsize) 2048) };
-    sent = sent;
-    got = got;
-    output = paste output 0 (kept (end .progress .sentsize) sent);
-  }
+  repeating progress = afterStep (repeatedStep progress end) sent got (repeatedOutput end sent output)
 
   -- "A message sent first goes to sent and output"
   abbrev pub sending : (m : Bytes) (progress : Progress) (gotAfter : Bytes) → After
-  sending m progress gotAfter = record {
-    step = record { end = record { own = end .own; progress = progress }; answer = Send (length m) };
-    sent = paste sent 0 m;
-    got = gotAfter;
-    output = paste output 0 m;
-  }
+  sending m progress gotAfter = afterStep (stepped (withProgress progress end) (Send (length m))) (paste sent 0 m) gotAfter (paste output 0 m)
 
 -- the paper's number and values for each case
 unfoldable pub stepAnswer : (answered : StepAnswer) → Answer

@@ -12,8 +12,8 @@ use Rattle.quick_end.specs.declared.Progress.{Progress}
 use Rattle.quick_end.specs.declared.End.{End}
 
 -- "8192, 8196, Idle 8195"
-unfoldable pub tickCode : (state : State) (isSmall : Bool) → Code
-tickCode state isSmall = if isSmall then 8192 else if isGivenUp state then 8196 else if isIdle state then 8195 else 0
+unfoldable pub tickCode : (state : State) (tight : Bool) → Code
+tickCode state tight = if tight then 8192 else if isGivenUp state then 8196 else if isIdle state then 8195 else 0
 
 unfoldable pub oneMore : (progress : Progress) → Progress
 oneMore progress = record {

@@ -13,7 +13,7 @@ use quick_step::with_state;
 use wire_write::put_bytes;
 ghost use mathlib.Core.Path.{_≡_};
 ghost use Prim.Native.Nat.{_<_};
-ghost use Rattle.quick_step.specs.Steps.{After};
+ghost use Rattle.quick_step.specs.Steps.{afterStep};
 ghost use Rattle.quick_tick.specs.Tick.{tickCode, oneMore, isOpen, ticked};
 
 fn is_open(state: State) -> bool
@@ -61,7 +61,8 @@ fn one_more(progress: Progress) -> Progress
 
 // Time has passed. Only `output` is written to.
 pub fn tick(end: End, sent: &[u8], got: &[u8], output: &mut [u8]) -> Stepped
-    ensures { λ r. ⌜ ticked end (now (sent .entry)) (now (got .entry)) (now (output .entry)) ≡ record { step = r; sent = now (sent .entry); got = now (got .entry); output = now (output .exit) } ⌝ }
+    ensures { λ r. ⌜ ticked end (now (sent .entry)) (now (got .entry)) (now (output .entry)) ≡
+        afterStep r (now (sent .entry)) (now (got .entry)) (now (output .exit)) ⌝ }
 {
     let own = end.own;
     let progress = end.progress;

@@ -18,4 +18,11 @@ answer-one-spec =
     (λ c. search needs)
     (λ c. search needs)
     (λ c. search needs)
-    (λ c. one-answered _ _ _ _ _ _ (c .before .before .before .before .before .before .before .before .before .before .before .before .before .before .before .before .before .before .before .before .before .before .before .pre .1) _ (c .before .before .before .before .before .before .before .before .before .before .before .before .before .before .before .before .before .before .is-longer .ensures) (search needs) _ _ _ (c .before .before .before .before .before .before .before .before .before .before .before .before .front .ensures) (c .before .before .before .before .before .before .before .before .before .before .before .body-at .ensures) (c .before .before .before .before .before .before .before .before .before .before .choose-from .ensures) _ _ _ _ (c .before .before .before .before .before .before .after-choice .ensures)))
+    (λ c.
+    let answered : tie.After-after-choice = search in
+    let chose : tie.After-choose-from = search in
+    let long : tie.Else1 = search in
+    let asked : tie.After-is-longer = search in
+    let start : tie.Start = search in
+    one-answered _ _ _ _ _ _ (start .pre .1) _ (asked .is-longer .ensures) (long .if1 .left) _ _ _ (chose .before .before .front .ensures)
+    (chose .before .body-at .ensures) (chose .choose-from .ensures) _ _ _ _ (answered .after-choice .ensures)))

@@ -1,4 +1,6 @@
-use Rattle.quick_deliver.proofs.Ways.{deliver-early, deliver-refused, deliver-initiator, deliver-responder, delivery-fits, shape-found}
+use Rattle.quick_shape.proofs.Laws.{shape-found}
+use Rattle.quick_check.proofs.Laws.{read-fits}
+use Rattle.quick_deliver.proofs.Ways.{deliver-early, deliver-refused, deliver-initiator, deliver-responder}
 use borrow.Author.Needs.{needs}
 use Rattle.quick_deliver.proofs.deliver.Statement.{statement}
 use Rattle.quick_deliver.proofs.deliver.Tie as tie
@@ -24,12 +26,24 @@ deliver-spec =
     (λ c κs. search needs)
     (λ c κs. search needs)
     (λ c κs. search needs)
-    (λ c κs. (delivery-fits _ _ (c .before .before .before .before .before .before .before .before .before .read .ensures) _ _ _ _ (c .before .before .before .before .before .before .before .before .read-code .ensures) (c .before .before .before .before .before .before .before .if2 .left), shape-found _ _ (c .before .before .before .before .before .before .before .before .before .read .ensures) _ _ (c .before .before .before .before .before .before .count-of .ensures) (c .before .before .before .before .before .shape .ensures)))
+    (λ c κs.
+    let found : tie.After-shape = search in
+    let passes = found .before .before in
+    let reads = passes .before .before .read .ensures in (
+      read-fits _ _ reads _ _ _ _ (passes .before .read-code .ensures) (passes .if2 .left),
+      shape-found _ _ reads _ _ (found .before .count-of .ensures) (found .shape .ensures),
+    ))
     (λ c. search needs)
     (λ c. search needs)
     (λ c. search needs)
     (λ c. search deliver-initiator)
-    (λ c κs. (delivery-fits _ _ (c .before .before .before .before .before .before .before .before .before .read .ensures) _ _ _ _ (c .before .before .before .before .before .before .before .before .read-code .ensures) (c .before .before .before .before .before .before .before .if2 .left), shape-found _ _ (c .before .before .before .before .before .before .before .before .before .read .ensures) _ _ (c .before .before .before .before .before .before .count-of .ensures) (c .before .before .before .before .before .shape .ensures)))
+    (λ c κs.
+    let found : tie.After-shape = search in
+    let passes = found .before .before in
+    let reads = passes .before .before .read .ensures in (
+      read-fits _ _ reads _ _ _ _ (passes .before .read-code .ensures) (passes .if2 .left),
+      shape-found _ _ reads _ _ (found .before .count-of .ensures) (found .shape .ensures),
+    ))
     (λ c. search needs)
     (λ c. search needs)
     (λ c. search needs)

@@ -19,4 +19,11 @@ take-two-spec =
     (λ c. search needs)
     (λ c. search needs)
     (λ c. search needs)
-    (λ c. two-opened _ _ _ _ _ _ (c .before .before .before .before .before .before .before .before .before .before .before .before .before .before .before .before .before .before .before .before .before .pre .1) _ (c .before .before .before .before .before .before .before .before .before .before .before .before .before .before .before .is-longer .ensures) (search needs) _ _ (c .before .before .before .before .before .before .before .before .before .before .before .before .kept .ensures) (c .before .before .before .before .before .before .before .before .before .before .before .taken-code .ensures) _ (search needs) _ _ _ (c .before .before .before .before .before .before .open .ensures)))
+    (λ c.
+    let opens : tie.After-open = search in
+    let taken : tie.Else2 = search in
+    let long : tie.Else1 = search in
+    let asked : tie.After-is-longer = search in
+    let start : tie.Start = search in
+    two-opened _ _ _ _ _ _ (start .pre .1) _ (asked .is-longer .ensures) (long .if1 .left) _ _ (taken .before .before .kept .ensures)
+    (taken .before .taken-code .ensures) _ (taken .if2 .left) _ _ _ (opens .open .ensures)))
