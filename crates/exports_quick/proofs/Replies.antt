@@ -33,12 +33,16 @@ module _ (book m buffer : List ℕ) (ah esp : ℕ) (small-ah : ah < 4294967296) 
     bytes = saOf 0 (setReply ah esp transforms (setNumbered number (saFrom 32 0 m)))
 
     module _ (low : spisLow ah esp transforms (setNumbered number (saFrom 32 0 m)) ≡ false) where
-      few-read : (r : Message) → message m ≡ r → messageChoice book m r ≡ choices.Chosen number line transforms → choice book m ≡ choices.Chosen number line transforms → length bytes ≤ 148
+      few-read : (r : Message) → message m ≡ r → messageChoice book m r ≡ choices.Chosen number line transforms →
+          choice book m ≡ choices.Chosen number line transforms → length bytes ≤ 148
       unfolding messageChoice
       few-read (read.Refused n) is e chosen = never (cc)
-      few-read (read.Read exchange count) is e chosen = choice-short exchange count book m number line transforms (chose-says exchange count book m is number line transforms chosen) ah esp small-ah small-esp low 0
+      few-read (read.Read exchange count) is e chosen =
+          let says = chose-says exchange count book m is number line transforms chosen in
+          choice-short exchange count book m number line transforms says ah esp small-ah small-esp low 0
 
-      few-book : (b : Book) → bookChoice book m b ≡ choices.Chosen number line transforms → choice book m ≡ choices.Chosen number line transforms → length bytes ≤ 148
+      few-book : (b : Book) → bookChoice book m b ≡ choices.Chosen number line transforms → choice book m ≡ choices.Chosen number line transforms →
+          length bytes ≤ 148
       unfolding bookChoice
       few-book (books.Refused n) e chosen = never (cc)
       few-book (books.Lawful main quick) e chosen = few-read (message m) refl e chosen

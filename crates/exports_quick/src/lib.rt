@@ -15,6 +15,7 @@ ghost use Prim.Native.Nat.{_+_, _*_};
 ghost use Rattle.quick_end.specs.declared.Role.the-variants.{Initiator, Responder};
 ghost use Rattle.quick_end.specs.Fresh.{fresh};
 ghost use Rattle.policy_reply.specs.Reply.{replied};
+ghost use Rattle.quick_step.specs.Steps.{afterStep};
 ghost use Rattle.exports_quick.specs.Exchanges.{stateNumber, sendSize, given, exchanged};
 ghost use Rattle.exports_quick.specs.Replies.{replyPacked};
 
@@ -71,7 +72,8 @@ fn give(
     got: &mut [u8],
     output: &mut [u8],
 ) -> Stepped
-    ensures { λ r. ⌜ given end said (now (from .entry)) (now (sent .entry)) (now (got .entry)) (now (output .entry)) ≡ record { step = r; sent = now (sent .exit); got = now (got .exit); output = now (output .exit) } ⌝ }
+    ensures { λ r. ⌜ given end said (now (from .entry)) (now (sent .entry)) (now (got .entry)) (now (output .entry)) ≡
+        afterStep r (now (sent .exit)) (now (got .exit)) (now (output .exit)) ⌝ }
 {
     deliver(end, true, front(from, send_size(said)), sent, got, output)
 }
@@ -98,7 +100,20 @@ pub extern "C" fn tallowbrim_exchange(
     rgot: &mut [u8],
     routput: &mut [u8],
 ) -> u32
-    ensures { λ r. ⌜ exchanged (fresh Initiator icookie rcookie (now (ibook .entry)) ah esp (now (inonce .entry))) (fresh Responder icookie rcookie (now (rbook .entry)) ah esp (now (rnonce .entry))) id (now (first .entry)) (now (second .entry)) (now (isent .entry)) (now (igot .entry)) (now (ioutput .entry)) (now (rsent .entry)) (now (rgot .entry)) (now (routput .entry)) ≡ record { states = r; isent = now (isent .exit); igot = now (igot .exit); ioutput = now (ioutput .exit); rsent = now (rsent .exit); rgot = now (rgot .exit); routput = now (routput .exit) } ⌝ }
+    ensures { λ r. ⌜ exchanged
+        (fresh Initiator icookie rcookie (now (ibook .entry)) ah esp (now (inonce .entry)))
+        (fresh Responder icookie rcookie (now (rbook .entry)) ah esp (now (rnonce .entry)))
+        id (now (first .entry)) (now (second .entry))
+        (now (isent .entry)) (now (igot .entry)) (now (ioutput .entry)) (now (rsent .entry)) (now (rgot .entry)) (now (routput .entry)) ≡
+        record {
+          states = r;
+          isent = now (isent .exit);
+          igot = now (igot .exit);
+          ioutput = now (ioutput .exit);
+          rsent = now (rsent .exit);
+          rgot = now (rgot .exit);
+          routput = now (routput .exit);
+        } ⌝ }
 {
     let initiator = fresh(Role::Initiator, icookie, rcookie, ibook, ah, esp, inonce);
     let responder = fresh(Role::Responder, icookie, rcookie, rbook, ah, esp, rnonce);

@@ -12,7 +12,8 @@ use Rattle.exports_quick.specs.Exchanges.{sendSize, given}
 use Rattle.exports_quick.proofs.give.Statement.{statement}
 use Rattle.exports_quick.proofs.give.Tie as tie
 
-step-given : (end : End) (said : StepAnswer) (from sent got output m : List ℕ) (n : ℕ) (a : After) → n ≡ sendSize said → m ≡ take n from → delivered end true m sent got output ≡ a → given end said from sent got output ≡ a
+step-given : (end : End) (said : StepAnswer) (from sent got output m : List ℕ) (n : ℕ) (a : After) → n ≡ sendSize said → m ≡ take n from →
+    delivered end true m sent got output ≡ a → given end said from sent got output ≡ a
 unfolding given
 step-given end said from sent got output m n a en em e = rw (← en, ← em) e
 

@@ -21,7 +21,8 @@ module _ (said : Outcome × List ℕ) (outcome : Outcome) (after : List ℕ) (sa
   unfolding replyPacked outcomePacked
   packed-written size is = rw (same, is)
 
-module _ (book m buffer after : List ℕ) (ah esp : ℕ) (small-ah : ah < 4294967296) (small-esp : esp < 4294967296) (outcome : Outcome) (same : replied book m ah esp buffer ≡ (outcome, after)) (size : ℕ) (is : outcome ≡ Written size) where
+module _ (book m buffer after : List ℕ) (ah esp : ℕ) (small-ah : ah < 4294967296) (small-esp : esp < 4294967296) (outcome : Outcome)
+    (same : replied book m ah esp buffer ≡ (outcome, after)) (size : ℕ) (is : outcome ≡ Written size) where
   few : size ≤ 148
   few = written-few book m buffer ah esp small-ah small-esp size (ap (λ (r : Outcome × List ℕ). r .0) same ∙ is)
 
