@@ -77,7 +77,8 @@ module _ (exchange : ℕ) (t : List ℕ) (l : LawfulTransform exchange t) (short
 
   repeated-lawful : LawfulTransform exchange (0 ∷ drop 1 t)
   repeated-lawful =
-      let number : (i : ℕ) → 1 ≤ i → numberAt 2 (0 ∷ drop 1 t) i ≡ numberAt 2 t i = λ i h. number-agree 2 (0 ∷ drop 1 t) t i i (λ k b. same-byte t (i + k) (omega arith)) in
+      let number : (i : ℕ) → 1 ≤ i → numberAt 2 (0 ∷ drop 1 t) i ≡ numberAt 2 t i =
+      λ i h. number-agree 2 (0 ∷ drop 1 t) t i i (λ k b. same-byte t (i + k) (omega arith)) in
       record {
         long = omega (arith, repeated-length, l .long);
         lies = number 2 (omega arith) ∙ l .lies ∙ sym repeated-length;
@@ -103,7 +104,8 @@ pub record Answers (ah esp : ℕ) (p t q : List ℕ) : Type 0 where
   pub same-transform : transform 0 q ≡ 0 ∷ drop 1 t
   pub own-spi : spi q ≡ ownSpi ah esp (protocol p)
 
-spi-keyed : {exchange wanted : ℕ} → Known exchange wanted → (ah esp : ℕ) → ah < 4294967296 → esp < 4294967296 → spiLow ah esp wanted ≡ false → Keyed exchange (ownSpi ah esp wanted)
+spi-keyed : {exchange wanted : ℕ} → Known exchange wanted → (ah esp : ℕ) → ah < 4294967296 → esp < 4294967296 → spiLow ah esp wanted ≡ false →
+    Keyed exchange (ownSpi ah esp wanted)
 unfolding ownSpi spiLow
 spi-keyed isakmp ah esp a e h = unkeyed
 spi-keyed ah-of ah esp a e h =
@@ -165,7 +167,9 @@ module _ (exchange ah esp : ℕ) (small-ah : ah < 4294967296) (small-esp : esp <
         }
 
     item : Item exchange (as-proposed next)
-    item = proposed-lawful exchange next (size / 256 % 256) (size % 256) (proposalNumber p .0) (protocol p) own (0 ∷ drop 1 t) writes [] 0 proposals.none (order-first (as-proposed next ++ []))
+    item =
+        proposed-lawful exchange next (size / 256 % 256) (size % 256) (proposalNumber p .0) (protocol p) own (0 ∷ drop 1 t) writes [] 0 proposals.none
+        (order-first (as-proposed next ++ []))
 
   alone-reads : proposalsCode 16 exchange 0 proposals.none (as-proposed 0) ≡ 0
   alone-reads = one-reads exchange (size / 256 % 256) (size % 256) (proposalNumber p .0) (protocol p) own (0 ∷ drop 1 t) (writes 0 (inl refl))
@@ -218,7 +222,8 @@ pub record Repeats (exchange ah esp : ℕ) (s : List ℕ) (chosen : ℕ → List
   pub as-many : proposalCount (set 0 body) ≡ proposalCount s
   pub each : (j : ℕ) → j < proposalCount s → Answers ah esp (proposal j s) (chosen j) (proposal j (set 0 body))
 
-module _ (exchange ah esp : ℕ) (small-ah : ah < 4294967296) (small-esp : esp < 4294967296) (s : List ℕ) (chosen : ℕ → List ℕ) (first : Offered exchange ah esp (proposal 0 s) (chosen 0)) where
+module _ (exchange ah esp : ℕ) (small-ah : ah < 4294967296) (small-esp : esp < 4294967296) (s : List ℕ) (chosen : ℕ → List ℕ)
+    (first : Offered exchange ah esp (proposal 0 s) (chosen 0)) where
   abbrev first-bytes : ℕ → List ℕ
   first-bytes next = as-proposed exchange ah esp small-ah small-esp (proposal 0 s) (chosen 0) first next
 
@@ -243,7 +248,8 @@ module _ (exchange ah esp : ℕ) (small-ah : ah < 4294967296) (small-esp : esp <
         each zero h = rw (parts-one .place 0 (omega arith)) (answers exchange ah esp small-ah small-esp (proposal 0 s) (chosen 0) first 0 (inl refl))
         each (suc j) h = absurd (omega arith)
 
-  module _ (second : Offered exchange ah esp (proposal 1 s) (chosen 1)) (two : proposalCount s ≡ 2) (quick : exchange ≡ 32) (same : proposalNumber (proposal 1 s) ≡ proposalNumber (proposal 0 s)) (other : protocol (proposal 0 s) ≡ protocol (proposal 1 s) → ⊥) where
+  module _ (second : Offered exchange ah esp (proposal 1 s) (chosen 1)) (two : proposalCount s ≡ 2) (quick : exchange ≡ 32)
+      (same : proposalNumber (proposal 1 s) ≡ proposalNumber (proposal 0 s)) (other : protocol (proposal 0 s) ≡ protocol (proposal 1 s) → ⊥) where
     abbrev second-bytes : List ℕ
     second-bytes = as-proposed exchange ah esp small-ah small-esp (proposal 1 s) (chosen 1) second 0
 
@@ -270,7 +276,8 @@ module _ (exchange ah esp : ℕ) (small-ah : ah < 4294967296) (small-esp : esp <
     parts-two =
         let lawful = item exchange ah esp small-ah small-esp (proposal 0 s) (chosen 0) first 2 (inr (refl, quick)) in
         let one-number : Same (getD (first-bytes 2) 4 0) (second-bytes ∷ []) = same-on {p = second-bytes} same-value same-end in
-        one-set (framed both-bytes) (first-bytes 2) (second-bytes ∷ []) lawful two-lawful one-number (omega arith) (ap (λ (l : List ℕ). first-bytes 2 ++ l) (sym (append-nil second-bytes)))
+        one-set (framed both-bytes) (first-bytes 2) (second-bytes ∷ []) lawful two-lawful one-number (omega arith)
+        (ap (λ (l : List ℕ). first-bytes 2 ++ l) (sym (append-nil second-bytes)))
 
     two-repeat : Repeats exchange ah esp s chosen (framed both-bytes)
     unfolding flatten
@@ -289,7 +296,8 @@ module _ (exchange ah esp : ℕ) (small-ah : ah < 4294967296) (small-esp : esp <
 
 -- ---- what the choice takes of an offered proposal
 
-offered : (exchange i : ℕ) (book p : List ℕ) → Item exchange p → HasTransform exchange i book p → (ah esp : ℕ) → spiLow ah esp (protocol p) ≡ false → Offered exchange ah esp p (chosenIn exchange i book p)
+offered : (exchange i : ℕ) (book p : List ℕ) → Item exchange p → HasTransform exchange i book p → (ah esp : ℕ) → spiLow ah esp (protocol p) ≡ false →
+    Offered exchange ah esp p (chosenIn exchange i book p)
 unfolding protocol
 offered exchange i book p item some ah esp high =
     let k : ℕ = lowest exchange i book p - 1 in
@@ -309,7 +317,8 @@ record Replies (exchange i ah esp : ℕ) (book s : List ℕ) : Type 0 where
   repeats : Repeats exchange ah esp s (λ j. chosenIn exchange i book (proposal j s)) (framed bytes)
   few : length bytes ≤ 136
 
-module _ (exchange i ah esp : ℕ) (book s : List ℕ) (lawful : LawfulSet exchange s) (suits : Suits exchange i book s) (small-ah : ah < 4294967296) (small-esp : esp < 4294967296) where
+module _ (exchange i ah esp : ℕ) (book s : List ℕ) (lawful : LawfulSet exchange s) (suits : Suits exchange i book s) (small-ah : ah < 4294967296)
+    (small-esp : esp < 4294967296) where
   abbrev chosen-at : ℕ → List ℕ
   chosen-at j = chosenIn exchange i book (proposal j s)
 
@@ -324,7 +333,8 @@ module _ (exchange i ah esp : ℕ) (book s : List ℕ) (lawful : LawfulSet excha
     reply-is : (next : ℕ) → proposalReply ah esp next (numberOf (lowest exchange i book (proposal j s)) (proposal j s)) (proposal j s) ≡ bytes-at next
     unfolding proposalReply
     reply-is next =
-        rw (taken-by-number exchange i book (proposal j s) (lawful .lawful j l) (suits .each j l)) (is-proposed exchange ah esp small-ah small-esp (proposal j s) (chosen-at j) offered-at next)
+        rw (taken-by-number exchange i book (proposal j s) (lawful .lawful j l) (suits .each j l))
+        (is-proposed exchange ah esp small-ah small-esp (proposal j s) (chosen-at j) offered-at next)
 
     bytes-few : (next : ℕ) → length (bytes-at next) ≤ 68
     bytes-few next = proposed-length exchange ah esp small-ah small-esp (proposal j s) (chosen-at j) offered-at
@@ -364,7 +374,12 @@ module _ (exchange i ah esp : ℕ) (book s : List ℕ) (lawful : LawfulSet excha
         bytes = bytes-at 0 (lawful .some) high 2 ++ bytes-at 1 second high2 0;
         is = rw (several, reply-is 0 (lawful .some) high 2, reply-is 1 second high2 0);
         repeats = two-repeat exchange ah esp small-ah small-esp s chosen-at a b (p .two) quick (lawful .one-number 1 second) (p .other);
-        few = omega (arith, length-append (bytes-at 0 (lawful .some) high 2) (bytes-at 1 second high2 0), bytes-few 0 (lawful .some) high 2, bytes-few 1 second high2 0);
+        few = omega (
+          arith,
+          length-append (bytes-at 0 (lawful .some) high 2) (bytes-at 1 second high2 0),
+          bytes-few 0 (lawful .some) high 2,
+          bytes-few 1 second high2 0,
+        );
       }
 
   module _ (low : spisLow ah esp (transformsOf exchange i book s) s ≡ false) where
@@ -382,7 +397,9 @@ module _ (exchange i ah esp : ℕ) (book s : List ℕ) (lawful : LawfulSet excha
 
 -- ---- the reply to a choice
 
-module _ (exchange count : ℕ) (book m : List ℕ) (number : ProposalNumber) (line : LineNumber) (transforms : Transforms) (c : Chose exchange count book m number line transforms) (ah esp : ℕ) (small-ah : ah < 4294967296) (small-esp : esp < 4294967296) (low : spisLow ah esp transforms (setNumbered number (saFrom 32 0 m)) ≡ false) where
+module _ (exchange count : ℕ) (book m : List ℕ) (number : ProposalNumber) (line : LineNumber) (transforms : Transforms)
+    (c : Chose exchange count book m number line transforms) (ah esp : ℕ) (small-ah : ah < 4294967296) (small-esp : esp < 4294967296)
+    (low : spisLow ah esp transforms (setNumbered number (saFrom 32 0 m)) ≡ false) where
   abbrev answered-set : List ℕ
   answered-set = set (c .k) (saFrom count 0 m)
 
@@ -393,15 +410,21 @@ module _ (exchange count : ℕ) (book m : List ℕ) (number : ProposalNumber) (l
   not-low = rw (c .by-number, c .taken) at low
 
   -- its SA payload reads, with these parts
-  pub choice-repeats : (next : ℕ) → Repeats exchange ah esp answered-set (λ j. chosenIn exchange (c .i) book (proposal j answered-set)) (drop 4 (saOf next (setReply ah esp transforms (setNumbered number (saFrom 32 0 m)))))
+  pub choice-repeats : (next : ℕ) →
+      Repeats exchange ah esp answered-set (λ j. chosenIn exchange (c .i) book (proposal j answered-set))
+      (drop 4 (saOf next (setReply ah esp transforms (setNumbered number (saFrom 32 0 m)))))
   choice-repeats next = rw same-reply (reply-repeats exchange (c .i) ah esp book answered-set (c .lawful) (c .suits) small-ah small-esp not-low next)
 
   pub choice-short : (next : ℕ) → length (saOf next (setReply ah esp transforms (setNumbered number (saFrom 32 0 m)))) ≤ 148
   choice-short next = rw same-reply (reply-short exchange (c .i) ah esp book answered-set (c .lawful) (c .suits) small-ah small-esp not-low next)
 
 -- and it is what stands in the buffer
-pub choice-written : (book m buffer : List ℕ) (ah esp : ℕ) (number : ProposalNumber) (line : LineNumber) (transforms : Transforms) → choice book m ≡ Chosen number line transforms → 2048 ≤ length buffer → spisLow ah esp transforms (setNumbered number (saFrom 32 0 m)) ≡ false →
+pub choice-written : (book m buffer : List ℕ) (ah esp : ℕ) (number : ProposalNumber) (line : LineNumber) (transforms : Transforms) →
+    choice book m ≡ Chosen number line transforms → 2048 ≤ length buffer → spisLow ah esp transforms (setNumbered number (saFrom 32 0 m)) ≡ false →
     replied book m ah esp buffer
-    ≡ (Written (length (saOf 0 (setReply ah esp transforms (setNumbered number (saFrom 32 0 m))))), paste buffer 0 (saOf 0 (setReply ah esp transforms (setNumbered number (saFrom 32 0 m)))))
+    ≡ (
+      Written (length (saOf 0 (setReply ah esp transforms (setNumbered number (saFrom 32 0 m))))),
+      paste buffer 0 (saOf 0 (setReply ah esp transforms (setNumbered number (saFrom 32 0 m)))),
+    )
 unfolding replied choiceReplied setReplied
 choice-written book m buffer ah esp number line transforms e room low = rw (le-ltb (length buffer) 2048 room, e, low)

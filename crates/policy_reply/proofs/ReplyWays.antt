@@ -52,7 +52,8 @@ paste-behind : (l : List ℕ) (i n : ℕ) (xs ys : List ℕ) → length xs ≡ n
 paste-behind l i n xs ys e = rw (← e) (paste-append l i xs ys)
 
 module _ (l : List ℕ) (at next number protocol : ℕ) where
-  pub fields-written : (size spi : ℕ) (b c : List ℕ) → b ≡ paste l at (head next size) → c ≡ paste b (at + 4) (number ∷ protocol ∷ spi ∷ 1 ∷ []) → c ≡ paste l at (fields next size number protocol spi)
+  pub fields-written : (size spi : ℕ) (b c : List ℕ) → b ≡ paste l at (head next size) → c ≡ paste b (at + 4) (number ∷ protocol ∷ spi ∷ 1 ∷ []) →
+      c ≡ paste l at (fields next size number protocol spi)
   unfolding fields
   fields-written size spi b c e f = rw (f, e) (paste-behind l at 4 (head next size) _ (length-head next size))
 
@@ -69,7 +70,9 @@ module _ (l : List ℕ) (at next number protocol : ℕ) where
       let inner : put l (at + 8) (spi ++ headed 0 rest) ≡ (n + k, b2) = put-after l b1 b2 (at + 8) n spi (headed 0 rest) k e1 e2 in
       let size : 8 + length (spi ++ headed 0 rest) ≡ 12 + n + length rest = omega (arith, put-size l b2 (at + 8) (n + k) (spi ++ headed 0 rest) inner) in
       let eight : length (fields next (12 + n + length rest) number protocol n) ≡ 8 = length-fields next (12 + n + length rest) number protocol n in
-      rw (← er, size, en) (put-before l b2 b3 at (n + k) (fields next (12 + n + length rest) number protocol n) (spi ++ headed 0 rest) (rw eight inner) e3 ∙ ap (λ (k : ℕ). (k, b3)) (omega arith))
+      rw (← er, size, en)
+      (put-before l b2 b3 at (n + k) (fields next (12 + n + length rest) number protocol n) (spi ++ headed 0 rest) (rw eight inner) e3
+      ∙ ap (λ (k : ℕ). (k, b3)) (omega arith))
 
 -- ---- the proposals of a reply
 
@@ -108,11 +111,13 @@ module _ (l b : List ℕ) (at ah esp n : ℕ) (t : TransformNumber) (s p : List 
   pub first-size : (next : ℕ) → put l at (proposalReply ah esp next t p) ≡ (n, b) → n ≤ 16 + length s
   first-size next e = omega (arith, put-size l b at n (proposalReply ah esp next t p) e, offered-size ah esp next t p, two-within s, ap length ep)
 
-  pub set-one : (transforms : Transforms) → transforms ≡ One t → put l at (proposalReply ah esp 0 t p) ≡ (n, b) → put l at (setReply ah esp transforms s) ≡ (n, b)
+  pub set-one : (transforms : Transforms) → transforms ≡ One t → put l at (proposalReply ah esp 0 t p) ≡ (n, b) →
+      put l at (setReply ah esp transforms s) ≡ (n, b)
   unfolding setReply
   set-one transforms h e = rw (h, ← ep) e
 
-  module _ (c q : List ℕ) (u : TransformNumber) (k : ℕ) (eq : q ≡ proposal 1 s) (e : put l at (proposalReply ah esp 2 t p) ≡ (n, b)) (f : put b (at + n) (proposalReply ah esp 0 u q) ≡ (k, c)) where
+  module _ (c q : List ℕ) (u : TransformNumber) (k : ℕ) (eq : q ≡ proposal 1 s) (e : put l at (proposalReply ah esp 2 t p) ≡ (n, b))
+      (f : put b (at + n) (proposalReply ah esp 0 u q) ≡ (k, c)) where
     pub both-size : n + k ≤ 32 + length s
     both-size =
         omega (
@@ -152,13 +157,15 @@ pub sa-size : (next : ℕ) (proposals : List ℕ) → length (saOf next proposal
 unfolding saOf bytesOf
 sa-size next proposals = length-headed next (0 ∷ 0 ∷ 0 ∷ 1 ∷ 0 ∷ 0 ∷ 0 ∷ 1 ∷ proposals) ∙ omega arith
 
-pub reply-fits : (l b : List ℕ) (at next ah esp n : ℕ) (transforms : Transforms) (s : List ℕ) → put l at (saOf next (setReply ah esp transforms s)) ≡ (n, b) → n ≤ 44 + length s
+pub reply-fits : (l b : List ℕ) (at next ah esp n : ℕ) (transforms : Transforms) (s : List ℕ) → put l at (saOf next (setReply ah esp transforms s)) ≡ (n, b) →
+    n ≤ 44 + length s
 reply-fits l b at next ah esp n transforms s e =
     omega (arith, put-size l b at n (saOf next (setReply ah esp transforms s)) e, sa-size next (setReply ah esp transforms s), set-size ah esp transforms s)
 
 -- DOI, situation and head, written before the proposals
 pub sa-written : (l b : List ℕ) (at n : ℕ) (proposals : List ℕ) → put l (at + 12) proposals ≡ (n, b) →
-    (next : ℕ) (c d : List ℕ) → c ≡ paste b (at + 4) (0 ∷ 0 ∷ 0 ∷ 1 ∷ 0 ∷ 0 ∷ 0 ∷ 1 ∷ []) → d ≡ paste c at (head next (12 + n)) → put l at (saOf next proposals) ≡ (12 + n, d)
+    (next : ℕ) (c d : List ℕ) → c ≡ paste b (at + 4) (0 ∷ 0 ∷ 0 ∷ 1 ∷ 0 ∷ 0 ∷ 0 ∷ 1 ∷ []) → d ≡ paste c at (head next (12 + n)) →
+    put l at (saOf next proposals) ≡ (12 + n, d)
 unfolding saOf bytesOf
 sa-written l b at n proposals e next c d f g =
     let inner : put l (at + 4 + 8) proposals ≡ (n, b) = ap (λ (k : ℕ). put l k proposals) (omega arith) ∙ e in
@@ -190,13 +197,15 @@ module _ (book m l : List ℕ) (ah esp : ℕ) where
     unfolding replied choiceReplied choiceRefusal
     reply-refused number h r e = rw (le-ltb (length l) 2048 room, ← ec, e, h)
 
-    module _ (number : ProposalNumber) (line : LineNumber) (transforms : Transforms) (chosen : c ≡ choices.Chosen number line transforms) (body s : List ℕ) (eb : body ≡ saFrom 32 0 m) (es : s ≡ setNumbered number body)
+    module _ (number : ProposalNumber) (line : LineNumber) (transforms : Transforms) (chosen : c ≡ choices.Chosen number line transforms) (body s : List ℕ)
+        (eb : body ≡ saFrom 32 0 m) (es : s ≡ setNumbered number body)
         (low : Bool) (el : low ≡ spisLow ah esp transforms s) where
       pub reply-low : low ≡ true → replied book m ah esp l ≡ (Refused 11, l)
       unfolding replied choiceReplied setReplied
       reply-low h = rw (le-ltb (length l) 2048 room, ← ec, chosen, ← eb, ← es, ← el, h)
 
-      pub reply-written : low ≡ false → (n : ℕ) (b : List ℕ) → put l 0 (saOf 0 (setReply ah esp transforms s)) ≡ (n, b) → replied book m ah esp l ≡ (Written n, b)
+      pub reply-written : low ≡ false → (n : ℕ) (b : List ℕ) → put l 0 (saOf 0 (setReply ah esp transforms s)) ≡ (n, b) →
+          replied book m ah esp l ≡ (Written n, b)
       unfolding replied choiceReplied setReplied put
       reply-written h n b e =
           let en : length (saOf 0 (setReply ah esp transforms s)) ≡ n = ap (λ (p : ℕ × List ℕ). p .0) e in

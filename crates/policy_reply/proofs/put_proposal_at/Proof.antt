@@ -19,4 +19,11 @@ put-proposal-at-spec =
     (λ c. search needs)
     (λ c κs. search needs)
     (λ c. search needs)
-    (λ c. proposal-written _ _ _ _ _ _ _ _ _ _ _ _ _ (c .before .before .before .before .before .before .before .before .before .before .before .before .after .ensures) (c .before .before .before .before .before .before .before .before .before .before .put-spi .ensures) (c .before .before .before .before .before .before .put-headed .ensures) (c .before .before .put-fields .ensures)))
+    (λ c.
+    let fields = c .before .before in
+    let framed = fields .before .before in
+    let headed = framed .before .before in
+    let placed = headed .before .before in
+    let spi = placed .before .before in
+    let rest = spi .before .before in
+    proposal-written _ _ _ _ _ _ _ _ _ _ _ _ _ (rest .after .ensures) (spi .put-spi .ensures) (headed .put-headed .ensures) (fields .put-fields .ensures)))
