@@ -9,7 +9,8 @@ use Rattle.quick_write.specs.Messages.{proposalsOf, longer, tooLong, lon
 use Rattle.quick_write.specs.declared.Proposals.{Proposals}
 use Rattle.quick_end.specs.declared.Own.{Own}
 
-pub longer-fits : (l : List ℕ) (own : Own) (id : ℕ) (proposals : Proposals) (set first second : List ℕ) → length set ≤ 4096 → length first ≤ 4096 → length second ≤ 4096 →
+pub longer-fits : (l : List ℕ) (own : Own) (id : ℕ) (proposals : Proposals) (set first second : List ℕ) → length set ≤ 4096 → length first ≤ 4096 →
+    length second ≤ 4096 →
     longerInto l own id proposals set first second ≡ put l 0 (longer own id (proposalsOf own proposals set) first second)
 unfolding longerInto tooLong
 longer-fits l own id proposals set first second s f g = rw (le-ltb 4096 (length set) s, le-ltb 4096 (length first) f, le-ltb 4096 (length second) g)

@@ -22,8 +22,12 @@ use Rattle.quick_write.specs.declared.Proposals.the-variants.{Offer, Rep
 
 -- ---- numbers
 
-pub eight-bytes : (x : ℕ) → bytesOf 8 x ≡ x / 72057594037927936 % 256 ∷ x / 281474976710656 % 256 ∷ x / 1099511627776 % 256 ∷ x / 4294967296 % 256
+abbrev eightBytes : ℕ → List ℕ
+eightBytes x =
+    x / 72057594037927936 % 256 ∷ x / 281474976710656 % 256 ∷ x / 1099511627776 % 256 ∷ x / 4294967296 % 256
     ∷ x / 16777216 % 256 ∷ x / 65536 % 256 ∷ x / 256 % 256 ∷ x % 256 ∷ []
+
+pub eight-bytes : (x : ℕ) → bytesOf 8 x ≡ eightBytes x
 unfolding bytesOf
 eight-bytes x =
     let e2 : x / 256 / 256 ≡ x / 65536 = omega arith in
@@ -34,9 +38,7 @@ eight-bytes x =
     let e7 : x / 256 / 256 / 256 / 256 / 256 / 256 / 256 ≡ x / 72057594037927936 = omega arith in
     rw (e7, e6, e5, e4, e3, e2)
 
-pub eight-written : (x i : ℕ) (l b : List ℕ) →
-    b ≡ paste l i (x / 72057594037927936 % 256 ∷ x / 281474976710656 % 256 ∷ x / 1099511627776 % 256 ∷ x / 4294967296 % 256 ∷ x / 16777216 % 256 ∷ x / 65536 % 256 ∷ x / 256 % 256 ∷ x % 256 ∷ []) →
-    b ≡ paste l i (bytesOf 8 x)
+pub eight-written : (x i : ℕ) (l b : List ℕ) → b ≡ paste l i (eightBytes x) → b ≡ paste l i (bytesOf 8 x)
 eight-written x i l b h = rw (eight-bytes x) h
 
 -- ---- the header
@@ -52,25 +54,34 @@ header-written own id size l b1 b2 b3 b4 b5 e1 e2 e3 e4 e5 =
     let k1 : length (bytesOf 8 (own .icookie)) ≡ 8 = length-bytesOf 8 (own .icookie) in
     let k2 : length (bytesOf 8 (own .rcookie)) ≡ 8 = length-bytesOf 8 (own .rcookie) in
     let k4 : length (bytesOf 4 id) ≡ 4 = length-bytesOf 4 id in
-    let last : b5 ≡ paste b3 20 (bytesOf 4 id ++ bytesOf 4 size) = e5 ∙ ap (λ (l : List ℕ). paste l 24 (bytesOf 4 size)) e4 ∙ behind b3 20 4 (bytesOf 4 id) (bytesOf 4 size) k4 in
+    let last : b5 ≡ paste b3 20 (bytesOf 4 id ++ bytesOf 4 size) =
+    e5 ∙ ap (λ (l : List ℕ). paste l 24 (bytesOf 4 size)) e4 ∙ behind b3 20 4 (bytesOf 4 id) (bytesOf 4 size) k4 in
     let third : b5 ≡ paste b2 16 (8 ∷ 0x11 ∷ 32 ∷ 1 ∷ bytesOf 4 id ++ bytesOf 4 size) =
-    last ∙ ap (λ (l : List ℕ). paste l 20 (bytesOf 4 id ++ bytesOf 4 size)) e3 ∙ behind b2 16 4 (8 ∷ 0x11 ∷ 32 ∷ 1 ∷ []) (bytesOf 4 id ++ bytesOf 4 size) refl in
+    last ∙ ap (λ (l : List ℕ). paste l 20 (bytesOf 4 id ++ bytesOf 4 size)) e3
+    ∙ behind b2 16 4 (8 ∷ 0x11 ∷ 32 ∷ 1 ∷ []) (bytesOf 4 id ++ bytesOf 4 size) refl in
     let second : b5 ≡ paste b1 8 (bytesOf 8 (own .rcookie) ++ (8 ∷ 0x11 ∷ 32 ∷ 1 ∷ bytesOf 4 id ++ bytesOf 4 size)) =
     third ∙ ap (λ (l : List ℕ). paste l 16 (8 ∷ 0x11 ∷ 32 ∷ 1 ∷ bytesOf 4 id ++ bytesOf 4 size)) e2 ∙ behind b1 8 8 (bytesOf 8 (own .rcookie)) _ k2 in
-    second ∙ ap (λ (l : List ℕ). paste l 8 (bytesOf 8 (own .rcookie) ++ (8 ∷ 0x11 ∷ 32 ∷ 1 ∷ bytesOf 4 id ++ bytesOf 4 size))) e1 ∙ behind l 0 8 (bytesOf 8 (own .icookie)) _ k1
+    second ∙ ap (λ (l : List ℕ). paste l 8 (bytesOf 8 (own .rcookie) ++ (8 ∷ 0x11 ∷ 32 ∷ 1 ∷ bytesOf 4 id ++ bytesOf 4 size))) e1
+    ∙ behind l 0 8 (bytesOf 8 (own .icookie)) _ k1
 
 -- ---- an offer's proposals
 
-module _ (l b : List ℕ) (at ah esp next protocol i r : ℕ) (book : List ℕ) (id mode seconds protocols : ℕ) (ek : id ≡ quickId protocol) (em : mode ≡ quickMode i book) (es : seconds ≡ quickSeconds i book)
-    (ep : protocols ≡ quickProtocols i book) where
-  pub line-short : (eqb protocols 2 && eqb protocol 3) ≡ true →
-      put l at (proposalOf next (i + 1) protocol (ownSpi ah esp protocol) (0 ∷ 0 ∷ 0 ∷ 0 ∷ 1 ∷ id ∷ 0 ∷ 0 ∷ 0x80 ∷ 4 ∷ 0 ∷ mode ∷ 0x80 ∷ 1 ∷ 0 ∷ 1 ∷ 0x80 ∷ 2 ∷ seconds / 256 % 256 ∷ seconds % 256 ∷ [])) ≡ (r, b) →
+module _ (l b : List ℕ) (at ah esp next protocol i r : ℕ) (book : List ℕ) (id mode seconds protocols : ℕ) (ek : id ≡ quickId protocol)
+    (em : mode ≡ quickMode i book) (es : seconds ≡ quickSeconds i book) (ep : protocols ≡ quickProtocols i book) where
+  -- the bytes of the transform as the code has them: up to the mode, and the life at its end
+  abbrev withMode : List ℕ → List ℕ
+  withMode rest = 0 ∷ 0 ∷ 0 ∷ 0 ∷ 1 ∷ id ∷ 0 ∷ 0 ∷ 0x80 ∷ 4 ∷ 0 ∷ mode ∷ rest
+
+  abbrev life : List ℕ
+  life = 0x80 ∷ 1 ∷ 0 ∷ 1 ∷ 0x80 ∷ 2 ∷ seconds / 256 % 256 ∷ seconds % 256 ∷ []
+
+  pub line-short : (eqb protocols 2 && eqb protocol 3) ≡ true → put l at (proposalOf next (i + 1) protocol (ownSpi ah esp protocol) (withMode life)) ≡ (r, b) →
       put l at (lineProposal ah esp next protocol i book) ≡ (r, b)
   unfolding lineProposal proposalOf transformOne attributes fixed authentication headed head bytesOf
   line-short h e = rw (← ek, ← em, ← es, ← ep, h) e
 
   pub line-long : (eqb protocols 2 && eqb protocol 3) ≡ false →
-      put l at (proposalOf next (i + 1) protocol (ownSpi ah esp protocol) (0 ∷ 0 ∷ 0 ∷ 0 ∷ 1 ∷ id ∷ 0 ∷ 0 ∷ 0x80 ∷ 4 ∷ 0 ∷ mode ∷ 0x80 ∷ 5 ∷ 0 ∷ 20 ∷ 0x80 ∷ 1 ∷ 0 ∷ 1 ∷ 0x80 ∷ 2 ∷ seconds / 256 % 256 ∷ seconds % 256 ∷ [])) ≡ (r, b) →
+      put l at (proposalOf next (i + 1) protocol (ownSpi ah esp protocol) (withMode (0x80 ∷ 5 ∷ 0 ∷ 20 ∷ life))) ≡ (r, b) →
       put l at (lineProposal ah esp next protocol i book) ≡ (r, b)
   unfolding lineProposal proposalOf transformOne attributes fixed authentication headed head bytesOf
   line-long h e = rw (← ek, ← em, ← es, ← ep, h) e
@@ -92,26 +103,42 @@ unfolding transformOne attributes fixed headed head bytesOf
 transform-few protocol i book =
     omega (
       arith,
-      length-append (authentication (quickProtocols i book) protocol) (0x80 ∷ 1 ∷ 0 ∷ 1 ∷ 0x80 ∷ 2 ∷ quickSeconds i book / 256 % 256 ∷ quickSeconds i book % 256 ∷ []),
+      length-append (authentication (quickProtocols i book) protocol)
+          (0x80 ∷ 1 ∷ 0 ∷ 1 ∷ 0x80 ∷ 2 ∷ quickSeconds i book / 256 % 256 ∷ quickSeconds i book % 256 ∷ []),
       authentication-few (quickProtocols i book) protocol,
     )
 
 proposal-few : (ah esp next protocol i : ℕ) (book : List ℕ) → length (lineProposal ah esp next protocol i book) ≤ 36
 unfolding lineProposal
 proposal-few ah esp next protocol i book =
-    omega (arith, proposal-size next (i + 1) protocol (ownSpi ah esp protocol) (transformOne protocol i book), spi-few ah esp protocol, transform-few protocol i book)
+    omega (
+      arith,
+      proposal-size next (i + 1) protocol (ownSpi ah esp protocol) (transformOne protocol i book),
+      spi-few ah esp protocol,
+      transform-few protocol i book,
+    )
 
 set-few : (ah esp next i : ℕ) (book : List ℕ) → length (lineSet ah esp next i book) ≤ 72
 unfolding lineSet
 set-few ah esp next i book =
     by-test (eqb (quickProtocols i book) 1) (λ e. rw e (omega (arith, proposal-few ah esp next 3 i book)))
-    (λ e. rw e (omega (arith, length-append (lineProposal ah esp 2 2 i book) (lineProposal ah esp next 3 i book), proposal-few ah esp 2 2 i book, proposal-few ah esp next 3 i book)))
+    (λ e. rw e (omega (
+      arith,
+      length-append (lineProposal ah esp 2 2 i book) (lineProposal ah esp next 3 i book),
+      proposal-few ah esp 2 2 i book,
+      proposal-few ah esp next 3 i book,
+    )))
 
 pub sets-few : (n i ah esp : ℕ) (book : List ℕ) → length (lineSets n i ah esp book) ≤ 72 * n
 unfolding lineSets
 sets-few zero i ah esp book = omega arith
 sets-few (suc n) i ah esp book =
-    omega (arith, length-append (lineSet ah esp (nextSet (suc n)) i book) (lineSets n (i + 1) ah esp book), set-few ah esp (nextSet (suc n)) i book, sets-few n (i + 1) ah esp book)
+    omega (
+      arith,
+      length-append (lineSet ah esp (nextSet (suc n)) i book) (lineSets n (i + 1) ah esp book),
+      set-few ah esp (nextSet (suc n)) i book,
+      sets-few n (i + 1) ah esp book,
+    )
 
 module _ (l b : List ℕ) (at ah esp next i n : ℕ) (book : List ℕ) where
   pub proposal-fits : (protocol : ℕ) → put l at (lineProposal ah esp next protocol i book) ≡ (n, b) → n ≤ 36
@@ -124,9 +151,16 @@ pub sets-fit : (l b : List ℕ) (at n i ah esp r : ℕ) (book : List ℕ) → pu
 sets-fit l b at n i ah esp r book e = omega (arith, put-size l b at r (lineSets n i ah esp book) e, sets-few n i ah esp book)
 
 -- a proposal that is not made yet, by the bytes of its transform
-pub any-fits : (l b : List ℕ) (at next number protocol ah esp n : ℕ) (t : List ℕ) → put l at (proposalOf next number protocol (ownSpi ah esp protocol) t) ≡ (n, b) → length t ≤ 24 → n ≤ 36
+pub any-fits : (l b : List ℕ) (at next number protocol ah esp n : ℕ) (t : List ℕ) →
+    put l at (proposalOf next number protocol (ownSpi ah esp protocol) t) ≡ (n, b) → length t ≤ 24 → n ≤ 36
 any-fits l b at next number protocol ah esp n t e h =
-    omega (arith, put-size l b at n (proposalOf next number protocol (ownSpi ah esp protocol) t) e, proposal-size next number protocol (ownSpi ah esp protocol) t, spi-few ah esp protocol, length-drop 4 t)
+    omega (
+      arith,
+      put-size l b at n (proposalOf next number protocol (ownSpi ah esp protocol) t) e,
+      proposal-size next number protocol (ownSpi ah esp protocol) t,
+      spi-few ah esp protocol,
+      length-drop 4 t,
+    )
 
 -- ---- an offer's sets
 
@@ -135,7 +169,8 @@ module _ (l b : List ℕ) (at ah esp next i n : ℕ) (book : List ℕ) (protocol
   unfolding lineSet
   set-alone h e = rw (← ep, eq-eqb protocols 1 h) e
 
-  pub set-both : (protocols ≡ 1 → ⊥) → (k : ℕ) (c : List ℕ) → put l at (lineProposal ah esp 2 2 i book) ≡ (n, b) → put b (at + n) (lineProposal ah esp next 3 i book) ≡ (k, c) →
+  pub set-both : (protocols ≡ 1 → ⊥) → (k : ℕ) (c : List ℕ) → put l at (lineProposal ah esp 2 2 i book) ≡ (n, b) →
+      put b (at + n) (lineProposal ah esp next 3 i book) ≡ (k, c) →
       put l at (lineSet ah esp next i book) ≡ (n + k, c)
   unfolding lineSet
   set-both h k c e f = rw (← ep, ne-eqb protocols 1 h) (put-after l b c at n (lineProposal ah esp 2 2 i book) (lineProposal ah esp next 3 i book) k e f)
@@ -148,7 +183,8 @@ pub next-more : (n : ℕ) → 1 < n → 2 ≡ nextSet n
 unfolding nextSet
 next-more n h = rw (lt-leb n 1 h)
 
-sets-step : (n i ah esp : ℕ) (book : List ℕ) → (n ≡ 0 → ⊥) → lineSets n i ah esp book ≡ lineSet ah esp (nextSet n) i book ++ lineSets (n - 1) (i + 1) ah esp book
+sets-step : (n i ah esp : ℕ) (book : List ℕ) → (n ≡ 0 → ⊥) →
+    lineSets n i ah esp book ≡ lineSet ah esp (nextSet n) i book ++ lineSets (n - 1) (i + 1) ah esp book
 unfolding lineSets
 sets-step zero i ah esp book h = absurd (h refl)
 sets-step (suc n) i ah esp book h = let e : suc n - 1 ≡ n = omega arith in rw e
@@ -158,7 +194,8 @@ module _ (l : List ℕ) (at n i ah esp : ℕ) (book : List ℕ) where
   unfolding lineSets put paste
   sets-none z = rw z
 
-  pub sets-on : (n ≡ 0 → ⊥) → (next r k : ℕ) (b c : List ℕ) → next ≡ nextSet n → put l at (lineSet ah esp next i book) ≡ (r, b) → put b (at + r) (lineSets (n - 1) (i + 1) ah esp book) ≡ (k, c) →
+  pub sets-on : (n ≡ 0 → ⊥) → (next r k : ℕ) (b c : List ℕ) → next ≡ nextSet n → put l at (lineSet ah esp next i book) ≡ (r, b) →
+      put b (at + r) (lineSets (n - 1) (i + 1) ah esp book) ≡ (k, c) →
       put l at (lineSets n i ah esp book) ≡ (r + k, c)
   sets-on some next r k b c en e f =
       rw (sets-step n i ah esp book some, ← en) (put-after l b c at r (lineSet ah esp next i book) (lineSets (n - 1) (i + 1) ah esp book) k e f)
@@ -193,7 +230,8 @@ module _ (own : Own) (l b : List ℕ) (r : ℕ) (proposals : Proposals) (set : L
   unfolding proposalsOf
   sa-offer h e = rw h e
 
-  pub sa-reply : (transforms : Transforms) → proposals ≡ Reply transforms → put l 64 (saOf 10 (setReply (own .ah) (own .esp) transforms set)) ≡ (r, b) → put l 64 (saOf 10 (proposalsOf own proposals set)) ≡ (r, b)
+  pub sa-reply : (transforms : Transforms) → proposals ≡ Reply transforms → put l 64 (saOf 10 (setReply (own .ah) (own .esp) transforms set)) ≡ (r, b) →
+      put l 64 (saOf 10 (proposalsOf own proposals set)) ≡ (r, b)
   unfolding proposalsOf
   sa-reply transforms h e = rw h e
 
@@ -202,7 +240,8 @@ unfolding proposalsOf
 proposals-few own Offer set h = omega (arith, offer-few own)
 proposals-few own (Reply transforms) set h = omega (arith, set-size (own .ah) (own .esp) transforms set)
 
-pub sa-fits : (own : Own) (l b : List ℕ) (r : ℕ) (proposals : Proposals) (set : List ℕ) → length set ≤ 4096 → put l 64 (saOf 10 (proposalsOf own proposals set)) ≡ (r, b) → r ≤ 4140
+pub sa-fits : (own : Own) (l b : List ℕ) (r : ℕ) (proposals : Proposals) (set : List ℕ) → length set ≤ 4096 →
+    put l 64 (saOf 10 (proposalsOf own proposals set)) ≡ (r, b) → r ≤ 4140
 sa-fits own l b r proposals set h e =
     omega (arith, put-size l b 64 r (saOf 10 (proposalsOf own proposals set)) e, sa-size 10 (proposalsOf own proposals set), proposals-few own proposals set h)
 
@@ -223,12 +262,14 @@ module _ (own : Own) (l b : List ℕ) (at n k : ℕ) (nonce first second : List 
   unfolding nonceAndIdentities nonceOf
   nonce-alone h e = rw (eq-eqb (length first) 0 h, ← en, ← eo) e
 
-  pub nonce-with : (length first ≡ 0 → ⊥) → (i j : ℕ) (c d : List ℕ) → put l at (headed 5 nonce) ≡ (k, b) → put b (at + k) (headed 5 first) ≡ (i, c) → put c (at + k + i) (headed 0 second) ≡ (j, d) →
+  pub nonce-with : (length first ≡ 0 → ⊥) → (i j : ℕ) (c d : List ℕ) → put l at (headed 5 nonce) ≡ (k, b) → put b (at + k) (headed 5 first) ≡ (i, c) →
+      put c (at + k + i) (headed 0 second) ≡ (j, d) →
       put l at (nonceAndIdentities (nonceOf own) first second) ≡ (at + k + i + j - at, d)
   unfolding nonceAndIdentities nonceOf
   nonce-with h i j c d e f g =
       let two : put b (at + k) (headed 5 first ++ headed 0 second) ≡ (i + j, d) = put-after b c d (at + k) i (headed 5 first) (headed 0 second) j f g in
-      rw (ne-eqb (length first) 0 h, ← en, ← eo) (put-after l b d at k (headed 5 nonce) (headed 5 first ++ headed 0 second) (i + j) e two ∙ ap (λ (x : ℕ). (x, d)) (omega arith))
+      rw (ne-eqb (length first) 0 h, ← en, ← eo)
+      (put-after l b d at k (headed 5 nonce) (headed 5 first ++ headed 0 second) (i + j) e two ∙ ap (λ (x : ℕ). (x, d)) (omega arith))
 
 nonces-few : (own : Own) (first second : List ℕ) → length first ≤ 4096 → length second ≤ 4096 → length (nonceAndIdentities (nonceOf own) first second) ≤ 8460
 unfolding nonceAndIdentities
@@ -286,7 +327,8 @@ length-header own id size =
       length-bytesOf 4 size,
     )
 
-pub message-around : (own : Own) (id n r : ℕ) (payloads l b c : List ℕ) → put l 28 payloads ≡ (n, b) → around own id n b ≡ (r, c) → put l 0 (messageOf own id payloads) ≡ (r, c)
+pub message-around : (own : Own) (id n r : ℕ) (payloads l b c : List ℕ) → put l 28 payloads ≡ (n, b) → around own id n b ≡ (r, c) →
+    put l 0 (messageOf own id payloads) ≡ (r, c)
 unfolding messageOf padded around put
 message-around own id n r payloads l b c e f =
     let en : length payloads ≡ n = ap (λ (p : ℕ × List ℕ). p .0) e in
@@ -303,24 +345,29 @@ message-around own id n r payloads l b c e f =
     sym (paste-before l 0 (header own id (28 + n + padding n)) (payloads ++ zeros)) ∙ rw (length-header own id (28 + n + padding n), body) ec in
     rw (en, long, whole, size, bytes)
 
-pub three-written : (own : Own) (id k r : ℕ) (l b c : List ℕ) → put l 28 (headed 0 (replicate 32 0)) ≡ (k, b) → around own id 36 b ≡ (r, c) → put l 0 (messageThree own id) ≡ (r, c)
+pub three-written : (own : Own) (id k r : ℕ) (l b c : List ℕ) → put l 28 (headed 0 (replicate 32 0)) ≡ (k, b) → around own id 36 b ≡ (r, c) →
+    put l 0 (messageThree own id) ≡ (r, c)
 unfolding messageThree hash
 three-written own id k r l b c e f =
     let ek : k ≡ 36 = headed-fits l b 28 0 k (replicate 32 0) e in
     message-around own id 36 r (headed 0 (replicate 32 0)) l b c (e ∙ ap (λ (x : ℕ). (x, b)) ek) f
 
-pub longer-written : (own : Own) (id sa k rest r : ℕ) (proposals first second l b1 b2 b3 b4 : List ℕ) → put l 64 (saOf 10 proposals) ≡ (sa, b1) → put b1 28 (headed 1 (replicate 32 0)) ≡ (k, b2) →
-    put b2 (64 + sa) (nonceAndIdentities (nonceOf own) first second) ≡ (rest, b3) → around own id (36 + sa + rest) b3 ≡ (r, b4) → put l 0 (longer own id proposals first second) ≡ (r, b4)
+pub longer-written : (own : Own) (id sa k rest r : ℕ) (proposals first second l b1 b2 b3 b4 : List ℕ) → put l 64 (saOf 10 proposals) ≡ (sa, b1) →
+    put b1 28 (headed 1 (replicate 32 0)) ≡ (k, b2) →
+    put b2 (64 + sa) (nonceAndIdentities (nonceOf own) first second) ≡ (rest, b3) → around own id (36 + sa + rest) b3 ≡ (r, b4) →
+    put l 0 (longer own id proposals first second) ≡ (r, b4)
 unfolding longer hash
 longer-written own id sa k rest r proposals first second l b1 b2 b3 b4 e1 e2 e3 e4 =
     let h : List ℕ = headed 1 (replicate 32 0) in
     let ni : List ℕ = nonceAndIdentities (nonceOf own) first second in
     let long : length h ≡ 36 = length-headed 1 (replicate 32 0) in
     let eb : b2 ≡ paste b1 28 h = sym (put-bytes-is b1 b2 28 k h e2) in
-    let front : put l 28 (h ++ saOf 10 proposals) ≡ (36 + sa, b2) = put-before l b1 b2 28 sa h (saOf 10 proposals) (rw long e1) eb ∙ ap (λ (x : ℕ). (x + sa, b2)) long in
+    let front : put l 28 (h ++ saOf 10 proposals) ≡ (36 + sa, b2) =
+    put-before l b1 b2 28 sa h (saOf 10 proposals) (rw long e1) eb ∙ ap (λ (x : ℕ). (x + sa, b2)) long in
     let behind : put b2 (28 + (36 + sa)) ni ≡ (rest, b3) = ap (λ (x : ℕ). put b2 x ni) (omega arith) ∙ e3 in
     let all : put l 28 (h ++ (saOf 10 proposals ++ ni)) ≡ (36 + sa + rest, b3) =
-    ap (λ (x : List ℕ). put l 28 x) (sym (append-assoc h (saOf 10 proposals) ni)) ∙ put-after l b2 b3 28 (36 + sa) (h ++ saOf 10 proposals) ni rest front behind in
+    ap (λ (x : List ℕ). put l 28 x) (sym (append-assoc h (saOf 10 proposals) ni))
+    ∙ put-after l b2 b3 28 (36 + sa) (h ++ saOf 10 proposals) ni rest front behind in
     message-around own id (36 + sa + rest) r (h ++ (saOf 10 proposals ++ ni)) l b3 b4 all e4
 
 -- ---- parts that fit
@@ -342,7 +389,8 @@ module _ (set first second : List ℕ) (fit : (ltb 4096 (length set) || ltb 4096
   fitting-second = fitting .2
 
 module _ (l : List ℕ) (own : Own) (id : ℕ) (proposals : Proposals) (set first second : List ℕ) where
-  pub longer-refused : (ltb 4096 (length set) || ltb 4096 (length first) || ltb 4096 (length second)) ≡ true → longerInto l own id proposals set first second ≡ (0, l)
+  pub longer-refused : (ltb 4096 (length set) || ltb 4096 (length first) || ltb 4096 (length second)) ≡ true →
+      longerInto l own id proposals set first second ≡ (0, l)
   unfolding longerInto tooLong
   longer-refused h = rw h
 

@@ -16,10 +16,10 @@ use wire_write::put_head;
 use wire_write::put_headed;
 ghost use mathlib.Core.Path.{_≡_};
 ghost use Prim.Native.Nat.{min, _+_, _*_, _≤_};
-ghost use lib.ListN.{length, replicate};
+ghost use lib.ListN.{length};
 ghost use Rattle.wire_write.specs.Put.{bytesOf, paste, put};
 ghost use Rattle.policy_reply.specs.Reply.{saOf};
-ghost use Rattle.quick_write.specs.Messages.{padding, lineProposal, lineSet, nextSet, lineSets, lines, bookOf, nonceOf, offerOf, header, around, nonceAndIdentities, proposalsOf, longer, longerInto, messageThree};
+ghost use Rattle.quick_write.specs.Messages.{padding, lineProposal, lineSet, nextSet, lineSets, lines, nonceOf, offerOf, header, around, nonceAndIdentities, proposalsOf, longer, longerInto, messageThree};
 
 // What a longer message proposes: the offer by the own book, or a reply with these transforms.
 pub enum Proposals {
@@ -247,7 +247,8 @@ fn put_fitting(
     second: &[u8],
 ) -> u16
     requires { ⌜ (length (now set) ≤ 4096) × (length (now first) ≤ 4096) × (length (now second) ≤ 4096) ⌝ }
-    ensures { λ r. ⌜ put (now (buffer .entry)) 0 (longer own id (proposalsOf own proposals (now (set .entry))) (now (first .entry)) (now (second .entry))) ≡ (r, now (buffer .exit)) ⌝ }
+    ensures { λ r. ⌜ put (now (buffer .entry)) 0 (longer own id (proposalsOf own proposals (now (set .entry))) (now (first .entry)) (now (second .entry)))
+        ≡ (r, now (buffer .exit)) ⌝ }
 {
     let sa = put_sa(buffer, own, proposals, set);
     put_headed(buffer, 28, 1, &[0; 32]);
@@ -265,7 +266,8 @@ pub fn put_longer(
     first: &[u8],
     second: &[u8],
 ) -> u16
-    ensures { λ r. ⌜ longerInto (now (buffer .entry)) own id proposals (now (set .entry)) (now (first .entry)) (now (second .entry)) ≡ (r, now (buffer .exit)) ⌝ }
+    ensures { λ r. ⌜ longerInto (now (buffer .entry)) own id proposals (now (set .entry)) (now (first .entry)) (now (second .entry))
+        ≡ (r, now (buffer .exit)) ⌝ }
 {
     if (4096 < set.len()) | (4096 < first.len()) | (4096 < second.len()) {
         return 0;

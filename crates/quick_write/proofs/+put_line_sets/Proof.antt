@@ -45,6 +45,10 @@ pub +put-line-sets-spec : {M : Type 1} → statement M
     (λ c. search needs)
     (λ c. omega arith)
     (λ c κs. (omega arith, (omega arith, omega (arith, set-fits _ _ _ _ _ _ _ _ _ (c .before .before .before .put-line-set .ensures)))))
-    (λ c. omega (arith, set-fits _ _ _ _ _ _ _ _ _ (c .before .before .before .before .before .before .put-line-set .ensures), sets-fit _ _ _ _ _ _ _ _ _ (c .before .before .put-line-sets .ensures)))
+    (λ c. omega (
+      arith,
+      (let between = c .before .before .before in set-fits _ _ _ _ _ _ _ _ _ (between .before .before .before .put-line-set .ensures)),
+      sets-fit _ _ _ _ _ _ _ _ _ (c .before .before .put-line-sets .ensures),
+    ))
     (λ c. search needs)
     (λ c. search sets-on)

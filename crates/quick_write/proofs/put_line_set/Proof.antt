@@ -15,6 +15,10 @@ put-line-set-spec =
     (λ c κs. search needs)
     (λ c. omega (arith, proposal-fits _ _ _ _ _ _ _ _ _ _ (c .before .before .before .put-line-proposal2 .ensures)))
     (λ c κs. search needs)
-    (λ c. omega (arith, proposal-fits _ _ _ _ _ _ _ _ _ _ (c .before .before .before .before .before .before .put-line-proposal2 .ensures), proposal-fits _ _ _ _ _ _ _ _ _ _ (c .before .before .put-line-proposal3 .ensures)))
+    (λ c. omega (
+      arith,
+      (let between = c .before .before .before in proposal-fits _ _ _ _ _ _ _ _ _ _ (between .before .before .before .put-line-proposal2 .ensures)),
+      proposal-fits _ _ _ _ _ _ _ _ _ _ (c .before .before .put-line-proposal3 .ensures),
+    ))
     (λ c. search needs)
     (λ c. search set-both))
