@@ -24,8 +24,9 @@ use Rattle.quick_end.specs.declared.State.the-variants.{Idle, Sent, Half, Open,
 use Rattle.quick_step.specs.declared.StepAnswer.{StepAnswer}
 use Rattle.quick_step.specs.declared.StepAnswer.the-variants.{Send, Nothing, Refused}
 use Rattle.quick_exchange.specs.Exchange.{Party, World, Run, Fresh}
+use Rattle.quick_exchange.specs.Readable.{AllReadable}
 use Rattle.quick_exchange.proofs.Moves.{by-begin, by-tick, by-delivery}
-use Rattle.quick_exchange.proofs.Written.{AllReadable, all-readable}
+use Rattle.quick_exchange.proofs.Written.{all-readable}
 
 module _ (end : End) (sent got output : List ℕ) where
   -- what a call leaves: where it is a refusal, all is as it was
@@ -55,7 +56,8 @@ module _ (end : End) (sent got output : List ℕ) where
     unfolding atInitiator opened
     initiator-refused Sent =
         by-test (not (isLonger (shapeOf m))) (λ e. rw e (refuses _))
-        (λ e. by-test (not (eqb (takenCode (shapeOf m) (kept (end .progress .sentsize) sent) m) 0)) (λ f. rw (e, f) (refuses _)) (λ f. rw (e, f) (sends _ _ refl)))
+        (λ e. by-test (not (eqb (takenCode (shapeOf m) (kept (end .progress .sentsize) sent) m) 0)) (λ f. rw (e, f) (refuses _))
+        (λ f. rw (e, f) (sends _ _ refl)))
     initiator-refused Open = by-test (alike m (kept (end .progress .gotsize) got)) (λ e. rw e (sends _ _ refl)) (λ e. rw e (refuses _))
     initiator-refused Idle = refuses _
     initiator-refused Half = refuses _
@@ -79,7 +81,8 @@ module _ (end : End) (sent got output : List ℕ) where
     pub delivery-refused : (holds : Bool) → Unchanged (delivered end holds m sent got output)
     delivery-refused holds =
         by-delivery itself output Unchanged refuses m holds
-        (λ room h. by-test (isInitiator (end .own .role)) (λ f. rw f (initiator-refused (end .progress .state))) (λ f. rw f (responder-refused (end .progress .state))))
+        (λ room h. by-test (isInitiator (end .own .role)) (λ f. rw f (initiator-refused (end .progress .state)))
+        (λ f. rw f (responder-refused (end .progress .state))))
 
 -- ---- no two answers of a step have the same number and values
 

@@ -83,7 +83,8 @@ messageFirst = messages.messageOne (start .initiator .end .own) 7 firstIdentity 
 
 unfoldable pub messageSecond : List ℕ
 messageSecond =
-    messages.messageTwo (start .responder .end .own) 7 (Two (record { 0 = 1 }) (record { 0 = 1 })) (sets.setNumbered (record { 0 = 2 }) (choices.bodyAt 1 messageFirst)) firstIdentity secondIdentity
+    messages.messageTwo (start .responder .end .own) 7 (Two (record { 0 = 1 }) (record { 0 = 1 }))
+    (sets.setNumbered (record { 0 = 2 }) (choices.bodyAt 1 messageFirst)) firstIdentity secondIdentity
 
 unfoldable pub messageThird : List ℕ
 messageThird = messages.messageThree (start .initiator .end .own) 7
@@ -130,23 +131,38 @@ pub record Computed : Type 0 where
   pub from-second : after start trace .fromResponder ≡ messageSecond ∷ messageSecond ∷ []
 
 pub computed : Computed
-unfolding start bookOne bookTwo firstIdentity secondIdentity nonceOne nonceTwo buffer filled messageFirst messageSecond messageThird trace after FairTrace called
+unfolding start bookOne bookTwo firstIdentity secondIdentity nonceOne nonceTwo buffer filled messageFirst messageSecond messageThird trace after FairTrace
+    called
     numberAt bytesOf head headed allZero equal paste
-    attributes.sentFixed attributes.attributeType attributes.attributeSize attributes.afterAttribute coding.outOfBounds attributes.find attributes.attribute coding.mustBeFixed coding.fixedWrong coding.isDuration coding.durationWrong coding.attributeCode coding.attributesFrom coding.attributesCode attributes.value attributes.attributeCount
+    attributes.sentFixed attributes.attributeType attributes.attributeSize attributes.afterAttribute coding.outOfBounds attributes.find attributes.attribute
+    coding.mustBeFixed coding.fixedWrong coding.isDuration coding.durationWrong coding.attributeCode coding.attributesFrom coding.attributesCode
+    attributes.value attributes.attributeCount
     transforms.nextWanted transforms.transformWrong transforms.transformCode transforms.transformsCode
-    proposals.proposalWrong proposals.has proposals.with proposals.none proposals.setBefore proposals.orderWrong proposals.protocolWrong proposals.spiWrong proposals.countWrong proposals.transformBytes proposals.innerCode proposals.proposalCode proposals.proposalsCode proposals.offerCode
-    header.lengthWrong header.majorWrong header.minorWrong header.exchangeRefused header.exchangeUnknown header.flagsWrong header.cookieZero header.messageIdWrong header.flaggedLengthWrong header.noPayload header.headerCode
+    proposals.proposalWrong proposals.has proposals.with proposals.none proposals.setBefore proposals.orderWrong proposals.protocolWrong proposals.spiWrong
+    proposals.countWrong proposals.transformBytes proposals.innerCode proposals.proposalCode proposals.proposalsCode proposals.offerCode
+    header.lengthWrong header.majorWrong header.minorWrong header.exchangeRefused header.exchangeUnknown header.flagsWrong header.cookieZero
+    header.messageIdWrong header.flaggedLengthWrong header.noPayload header.headerCode
     identities.quickData identities.portZero identities.lawful identities.identityCode
     payloads.typeWrong payloads.lengthOut payloads.hashCode payloads.nonceCode payloads.bodyCode payloads.bodyOf payloads.payloadCode payloads.restCode
     message.inFront message.chain message.reading message.exchangeAndCount message.message message.walk message.payloadAt
-    parts.skip parts.parts items.firstItem items.afterItem sets.setEnd sets.firstSet sets.afterSet items.numbered sets.set sets.setCount sets.setNumbered items.proposal items.proposalCount fields.proposalNumber fields.protocol fields.spi fields.transformCount items.transform items.transformNumbered fields.transformNumber fields.transformId fields.attributesOf
-    lines.quickStart lines.quickCount lines.bookSize lines.mainSeconds lines.quickAt lines.quickProtocols lines.quickMode lines.quickSeconds books.mainLineLawful books.quickLineLawful books.mainLinesLawful books.quickLinesLawful books.bookInFront
-    suits.present suits.valueIs suits.lifeWithin suits.nothingSurplus suits.quickId suits.quickAuthentication suits.quickSuits suits.suitsLine suits.transformSuits suits.lowestFrom suits.lowest suits.protocolsAlone suits.protocolsBoth suits.protocolsSuit suits.setSuits
+    parts.skip parts.parts items.firstItem items.afterItem sets.setEnd sets.firstSet sets.afterSet items.numbered sets.set sets.setCount sets.setNumbered
+    items.proposal items.proposalCount fields.proposalNumber fields.protocol fields.spi fields.transformCount items.transform items.transformNumbered
+    fields.transformNumber fields.transformId fields.attributesOf
+    lines.quickStart lines.quickCount lines.bookSize lines.mainSeconds lines.quickAt lines.quickProtocols lines.quickMode lines.quickSeconds
+    books.mainLineLawful books.quickLineLawful books.mainLinesLawful books.quickLinesLawful books.bookInFront
+    suits.present suits.valueIs suits.lifeWithin suits.nothingSurplus suits.quickId suits.quickAuthentication suits.quickSuits suits.suitsLine
+    suits.transformSuits suits.lowestFrom suits.lowest suits.protocolsAlone suits.protocolsBoth suits.protocolsSuit suits.setSuits
     choices.lineCount choices.lineFrom choices.firstLine choices.numberOf choices.transformsOf choices.chosen choices.setFrom choices.chooseFrom choices.bodyAt
     replies.ownSpi replies.fields replies.proposalOf replies.proposalReply replies.setReply replies.saOf
-    messages.bookOf messages.nonceOf messages.fixed messages.authentication messages.attributes messages.transformOne messages.lineProposal messages.lineSet messages.nextSet messages.lineSets messages.lines messages.offerOf messages.hash messages.padding messages.padded messages.header messages.messageOf messages.nonceAndIdentities messages.longer messages.proposalsOf messages.messageOne messages.messageTwo messages.messageThree
-    shapes.typeIs shapes.shape shapes.isLonger shapes.alike checks.cookiesNotOwn fresh.isIdle fresh.isInitiator checks.quickCode checks.readCode shapes.countOf shapes.shapeOf taken.proposalTaken taken.setTaken taken.repliedSet taken.offeredSet taken.identitiesSame taken.takenCode agreed.spisOf agreed.transformsIn agreed.spiFor agreed.ownSpis taken.agreedTwo
-    fresh.freshCode fresh.idle fresh.ownOf fresh.fresh steps.small steps.kept fresh.isGivenUp begins.identitiesWrong begins.beginCode begins.begun ticks.tickCode steps.withState ticks.oneMore ticks.isOpen ticks.ticked delivers.deliveryCode delivers.identityAt delivers.opened delivers.atInitiator delivers.halfway delivers.afterChoice delivers.atResponder delivers.delivered
+    messages.bookOf messages.nonceOf messages.fixed messages.authentication messages.attributes messages.transformOne messages.lineProposal messages.lineSet
+    messages.nextSet messages.lineSets messages.lines messages.offerOf messages.hash messages.padding messages.padded messages.header messages.messageOf
+    messages.nonceAndIdentities messages.longer messages.proposalsOf messages.messageOne messages.messageTwo messages.messageThree
+    shapes.typeIs shapes.shape shapes.isLonger shapes.alike checks.cookiesNotOwn fresh.isIdle fresh.isInitiator checks.quickCode checks.readCode shapes.countOf
+    shapes.shapeOf taken.proposalTaken taken.setTaken taken.repliedSet taken.offeredSet taken.identitiesSame taken.takenCode agreed.spisOf agreed.transformsIn
+    agreed.spiFor agreed.ownSpis taken.agreedTwo
+    fresh.freshCode fresh.idle fresh.ownOf fresh.fresh steps.small steps.kept fresh.isGivenUp begins.identitiesWrong begins.beginCode begins.begun
+    ticks.tickCode steps.withState ticks.oneMore ticks.isOpen ticks.ticked delivers.deliveryCode delivers.identityAt delivers.opened delivers.atInitiator
+    delivers.halfway delivers.afterChoice delivers.atResponder delivers.delivered
 computed = record {
   starts-fresh = record {
     icookie = 3;

@@ -33,7 +33,8 @@ module _ (role : Role) (icookie rcookie : ℕ) (book : List ℕ) (ah esp : ℕ) 
   unfolding nonceOf ownOf
   nonce-back short = let e : min (length nonce) 256 ≡ length nonce = omega arith in rw e (front-of 256 nonce short)
 
-  own-fit : icookie < 18446744073709551616 → rcookie < 18446744073709551616 → ah < 4294967296 → esp < 4294967296 → freshCode icookie rcookie book ah esp nonce ≡ 0 →
+  own-fit : icookie < 18446744073709551616 → rcookie < 18446744073709551616 → ah < 4294967296 → esp < 4294967296 →
+      freshCode icookie rcookie book ah esp nonce ≡ 0 →
       Fit (ownOf role icookie rcookie book ah esp nonce) × (nonceOf (ownOf role icookie rcookie book ah esp nonce) ≡ nonce)
   unfolding ownOf
   own-fit ci cr ca ce h =
@@ -60,7 +61,8 @@ pub record Holds (role : Role) (icookie rcookie : ℕ) (nonce : List ℕ) (end :
   pub its-nonce : nonceOf (end .own) ≡ nonce
   pub is-idle : end .progress .state ≡ Idle
 
-pub fresh-fit : (role : Role) (icookie rcookie : ℕ) (end : End) → icookie < 18446744073709551616 → rcookie < 18446744073709551616 → (f : FreshEnd role icookie rcookie end) →
+pub fresh-fit : (role : Role) (icookie rcookie : ℕ) (end : End) → icookie < 18446744073709551616 → rcookie < 18446744073709551616 →
+    (f : FreshEnd role icookie rcookie end) →
     Holds role icookie rcookie (f .nonce) end
 unfolding fresh ownOf idle
 fresh-fit role icookie rcookie end ci cr f =

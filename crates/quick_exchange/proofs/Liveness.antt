@@ -99,7 +99,8 @@ runs k rest = k
 runs k (goes l ev fair) = goes (runs k l) ev fair
 
 -- an end that is open is left as it is, whatever happens
-pub open-run : {u z : World} → Run u z → (stateOf (u .initiator) ≡ Open → z .initiator ≡ u .initiator) × (stateOf (u .responder) ≡ Open → z .responder ≡ u .responder)
+pub open-run : {u z : World} → Run u z →
+    (stateOf (u .initiator) ≡ Open → z .initiator ≡ u .initiator) × (stateOf (u .responder) ≡ Open → z .responder ≡ u .responder)
 open-run rest = (λ q. refl, λ q. refl)
 open-run (goes {u = z} l (atFirst c) fair) =
     let h = open-run l in
@@ -115,11 +116,13 @@ longer-is first = by-test (eqb (length first) 0) (λ e. rw e) (λ e. rw e)
 -- ---- what an end does at a message that passes, as an equation
 
 module _ (p : Party) (m output : List ℕ) where
-  at-idle : stateOf p ≡ Idle → isLonger (shapeOf m) ≡ true → (s : Chooses (p .end .own) m) → atResponder (p .end) m (p .sent) (p .got) output (stateOf p) ≡ answers-with p m output s
+  at-idle : stateOf p ≡ Idle → isLonger (shapeOf m) ≡ true → (s : Chooses (p .end .own) m) →
+      atResponder (p .end) m (p .sent) (p .got) output (stateOf p) ≡ answers-with p m output s
   unfolding atResponder afterChoice
   at-idle q long s = rw (q, long, s .chosen)
 
-  at-half-again : stateOf p ≡ Half → alike m (gotOf p) ≡ true → atResponder (p .end) m (p .sent) (p .got) output (stateOf p) ≡ repeating (p .end) (p .sent) (p .got) output (p .end .progress)
+  at-half-again : stateOf p ≡ Half → alike m (gotOf p) ≡ true →
+      atResponder (p .end) m (p .sent) (p .got) output (stateOf p) ≡ repeating (p .end) (p .sent) (p .got) output (p .end .progress)
   unfolding atResponder
   at-half-again q same = rw (q, same)
 
@@ -133,7 +136,8 @@ module _ (p : Party) (m output : List ℕ) where
   unfolding atInitiator
   at-sent q long taken = rw (q, long, eq-eqb (takenCode (shapeOf m) (sentOf p) m) 0 taken)
 
-  at-open-again : stateOf p ≡ Open → alike m (gotOf p) ≡ true → atInitiator (p .end) m (p .sent) (p .got) output (stateOf p) ≡ repeating (p .end) (p .sent) (p .got) output (p .end .progress)
+  at-open-again : stateOf p ≡ Open → alike m (gotOf p) ≡ true →
+      atInitiator (p .end) m (p .sent) (p .got) output (stateOf p) ≡ repeating (p .end) (p .sent) (p .got) output (p .end .progress)
   unfolding atInitiator
   at-open-again q same = rw (q, same)
 
@@ -151,8 +155,8 @@ module _ (i r : Party) (pair : Pair (i .end .own) (r .end .own)) (a : Ask (i .en
   same-offer : (m : List ℕ) → alike m (offered a) ≡ true → bodyAt 1 m ≡ bodyAt 1 (offered a)
   same-offer m s = one-read (pair .fit-one) a m s .sa ∙ sym (one-read (pair .fit-one) a (offered a) (alike-same (offered a)) .sa)
 
-  abbrev suits-too : (m : List ℕ) → alike m (offered a) ≡ true → Chooses (r .end .own) (offered a) → Chooses (r .end .own) m
-  suits-too m s c = record {
+  abbrev chooses-too : (m : List ℕ) → alike m (offered a) ≡ true → Chooses (r .end .own) (offered a) → Chooses (r .end .own) m
+  chooses-too m s c = record {
     number = c .number;
     line = c .line;
     transforms = c .transforms;
@@ -162,16 +166,20 @@ module _ (i r : Party) (pair : Pair (i .end .own) (r .end .own)) (a : Ask (i .en
   awake : (isInitiator (r .end .own .role) && isIdle (stateOf r)) ≡ false
   awake = rw (second-is (r .end .own .role) (pair .is-second))
 
-  one-passes : (m : List ℕ) → alike m (offered a) ≡ true → (isIdle (stateOf r) ≡ true) ⊎ (r .end .progress .id ≡ a .id) → readCode (r .end .own) (stateOf r) (r .end .progress .id) m (message m) ≡ 0
+  one-passes : (m : List ℕ) → alike m (offered a) ≡ true → (isIdle (stateOf r) ≡ true) ⊎ (r .end .progress .id ≡ a .id) →
+      readCode (r .end .own) (stateOf r) (r .end .progress .id) m (message m) ≡ 0
   one-passes m s at =
-      longer-passes (i .end .own) (r .end .own) (a .id) (offerOf (i .end .own)) (a .first) (a .second) m (one-read (pair .fit-one) a m s) (sym (pair .icookies)) (sym (pair .rcookies)) (stateOf r)
+      longer-passes (i .end .own) (r .end .own) (a .id) (offerOf (i .end .own)) (a .first) (a .second) m (one-read (pair .fit-one) a m s) (sym (pair .icookies))
+      (sym (pair .rcookies)) (stateOf r)
       (r .end .progress .id)
       awake
       at
 
-  three-passes : (m : List ℕ) → alike m (messageThree (i .end .own) (a .id)) ≡ true → r .end .progress .id ≡ a .id → readCode (r .end .own) (stateOf r) (r .end .progress .id) m (message m) ≡ 0
+  three-passes : (m : List ℕ) → alike m (messageThree (i .end .own) (a .id)) ≡ true → r .end .progress .id ≡ a .id →
+      readCode (r .end .own) (stateOf r) (r .end .progress .id) m (message m) ≡ 0
   three-passes m s at =
-      third-passes (i .end .own) (r .end .own) (a .id) m (three-read (pair .fit-one) a m s) (sym (pair .icookies)) (sym (pair .rcookies)) (stateOf r) (r .end .progress .id) awake
+      third-passes (i .end .own) (r .end .own) (a .id) m (three-read (pair .fit-one) a m s) (sym (pair .icookies)) (sym (pair .rcookies)) (stateOf r)
+      (r .end .progress .id) awake
       (inr at)
 
   -- message 3 is shorter than message 1
@@ -194,15 +202,22 @@ module _ (i r : Party) (pair : Pair (i .end .own) (r .end .own)) (a : Ask (i .en
   -- ---- at the responder
 
   module _ (fr : List (List ℕ)) where
-    good-answer : (m output : List ℕ) → stateOf r ≡ Idle → alike m (offered a) ≡ true → Chooses (r .end .own) (offered a) → FullSize r output → GoodSecond i fr (called r (deliver m true output))
+    good-answer : (m output : List ℕ) → stateOf r ≡ Idle → alike m (offered a) ≡ true → Chooses (r .end .own) (offered a) → FullSize r output →
+        GoodSecond i fr (called r (deliver m true output))
     unfolding halfway isGivenUp isIdle
     good-answer m output q s c room =
-        let here = suits-too m s c in
+        let here = chooses-too m s c in
         let reply : List ℕ = replyOf (r .end .own) m here in
         let short = two-short pair a m s here in
-        let its = taken-second r m output room (ap isGivenUp q) (one-passes m s (inl (ap isIdle q))) (pair .is-second) ∙ at-idle r m output q (ap isLonger (one-read (pair .fit-one) a m s .shape) ∙ longer-is (a .first)) here in
+        let its =
+        taken-second r m output room (ap isGivenUp q) (one-passes m s (inl (ap isIdle q))) (pair .is-second)
+        ∙ at-idle r m output q (ap isLonger (one-read (pair .fit-one) a m s .shape) ∙ longer-is (a .first)) here in
         rw its
-        (inl (refl, sends-it r reply (answers-with r m output here .step .end .progress) (paste (r .got) 0 m) output short room fr ∙ ap (λ (n : List ℕ). n ∷ fr) (sym (keeps-it (r .sent) reply short (room .in-sent)))))
+        (inl (
+          refl,
+          sends-it r reply (answers-with r m output here .step .end .progress) (paste (r .got) 0 m) output short room fr
+              ∙ ap (λ (n : List ℕ). n ∷ fr) (sym (keeps-it (r .sent) reply short (room .in-sent))),
+        ))
 
     module _ (R : Replied a r fr) where
       good-again : (m output : List ℕ) → stateOf r ≡ Half → alike m (offered a) ≡ true → FullSize r output → GoodSecond i fr (called r (deliver m true output))
@@ -210,10 +225,12 @@ module _ (i r : Party) (pair : Pair (i .end .own) (r .end .own)) (a : Ask (i .en
       good-again m output q s room =
           let its = taken-second r m output room (ap isGivenUp q) (one-passes m s (inr (R .keeps .its-id))) (pair .is-second)
           ∙ at-half-again r m output q (alike-trans m (offered a) (gotOf r) s (alike-sym (gotOf r) (offered a) (R .from))) in
-          rw its
-          (inl (q, again r (a .id) (sentOf r) output (record { sent-room = R .keeps .sent-room; got-room = R .keeps .got-room; its-sent = refl; its-id = R .keeps .its-id }) room (r .end .progress) fr))
+          let keeps : Keeps r (a .id) (sentOf r) =
+          record { sent-room = R .keeps .sent-room; got-room = R .keeps .got-room; its-sent = refl; its-id = R .keeps .its-id } in
+          rw its (inl (q, again r (a .id) (sentOf r) output keeps room (r .end .progress) fr))
 
-      opens-then : (m output : List ℕ) → stateOf r ≡ Half → alike m (messageThree (i .end .own) (a .id)) ≡ true → FullSize r output → stateOf (left (called r (deliver m true output))) ≡ Open
+      opens-then : (m output : List ℕ) → stateOf r ≡ Half → alike m (messageThree (i .end .own) (a .id)) ≡ true → FullSize r output →
+          stateOf (left (called r (deliver m true output))) ≡ Open
       unfolding withState isGivenUp
       opens-then m output q s room =
           ap (λ (x : After). stateOf (left x))
@@ -222,26 +239,28 @@ module _ (i r : Party) (pair : Pair (i .end .own) (r .end .own)) (a : Ask (i .en
 
       -- ---- at the initiator
 
-      two-passes : (m : List ℕ) → alike m (replyOf (r .end .own) (gotOf r) (R .suits)) ≡ true → isIdle (stateOf i) ≡ false → i .end .progress .id ≡ a .id →
+      two-passes : (m : List ℕ) → alike m (replyOf (r .end .own) (gotOf r) (R .chooses)) ≡ true → isIdle (stateOf i) ≡ false → i .end .progress .id ≡ a .id →
           (readCode (i .end .own) (stateOf i) (i .end .progress .id) m (message m) ≡ 0) × (isLonger (shapeOf m) ≡ true)
       two-passes m s up at =
-          let l = two-read pair a (gotOf r) (R .from) (R .suits) m s in (
+          let l = two-read pair a (gotOf r) (R .from) (R .chooses) m s in (
             longer-passes (r .end .own) (i .end .own) (a .id) _ (a .first) (a .second) m l (pair .icookies) (pair .rcookies) (stateOf i) (i .end .progress .id)
                 (rw up (and-false (isInitiator (i .end .own .role))))
                 (inr at),
             ap isLonger (l .shape) ∙ longer-is (a .first),
           )
 
-      sent-opens : (m output : List ℕ) → stateOf i ≡ Sent → Keeps i (a .id) (offered a) → alike m (replyOf (r .end .own) (gotOf r) (R .suits)) ≡ true → FullSize i output →
+      sent-opens : (m output : List ℕ) → stateOf i ≡ Sent → Keeps i (a .id) (offered a) → alike m (replyOf (r .end .own) (gotOf r) (R .chooses)) ≡ true →
+          FullSize i output →
           called i (deliver m true output) ≡ opened (i .end) m (i .sent) (i .got) output
       unfolding isGivenUp isIdle
       sent-opens m output q k s room =
           let passes = two-passes m s (ap isIdle q) (k .its-id) in
-          let taken : takenCode (shapeOf m) (sentOf i) m ≡ 0 = rw (k .its-sent) (two-takes pair a (gotOf r) (R .from) (R .suits) m s) in
+          let taken : takenCode (shapeOf m) (sentOf i) m ≡ 0 = rw (k .its-sent) (two-takes pair a (gotOf r) (R .from) (R .chooses) m s) in
           taken-first i m output room (ap isGivenUp q) (passes .0) (pair .is-first) ∙ at-sent i m output q (passes .1) taken
 
       open-again : (m output : List ℕ) → stateOf i ≡ Open → i .end .progress .id ≡ a .id → alike (gotOf i) (sentOf r) ≡ true →
-          alike m (replyOf (r .end .own) (gotOf r) (R .suits)) ≡ true → FullSize i output → called i (deliver m true output) ≡ repeating (i .end) (i .sent) (i .got) output (i .end .progress)
+          alike m (replyOf (r .end .own) (gotOf r) (R .chooses)) ≡ true → FullSize i output →
+          called i (deliver m true output) ≡ repeating (i .end) (i .sent) (i .got) output (i .end .progress)
       unfolding isGivenUp isIdle
       open-again m output q at eg s room =
           let passes = two-passes m s (ap isIdle q) at in
@@ -255,21 +274,23 @@ second-message two b s = messageTwo two (b .id) (s .transforms) (setNumbered (s 
 
 -- is what the responder replies
 reply-is : (i r : Party) → Pair (i .end .own) (r .end .own) → (a b : Ask (i .end .own)) → offered a ≡ offered b →
-    (fr : List (List ℕ)) → (R : Replied a r fr) → (s : Chooses (r .end .own) (offered b)) → replyOf (r .end .own) (gotOf r) (R .suits) ≡ second-message (r .end .own) b s
+    (fr : List (List ℕ)) → (R : Replied a r fr) → (s : Chooses (r .end .own) (offered b)) →
+    replyOf (r .end .own) (gotOf r) (R .chooses) ≡ second-message (r .end .own) b s
 reply-is i r pair a b e fr R s =
     let from : alike (gotOf r) (offered b) ≡ true = rw e at (R .from) in
     let l = one-read (pair .fit-one) b (gotOf r) from in
     let body = same-offer i r pair b (gotOf r) from in
-    let both : Chosen (R .suits .number) (R .suits .line) (R .suits .transforms) ≡ Chosen (s .number) (s .line) (s .transforms) =
-    sym (R .suits .chosen) ∙ suits-too i r pair b (gotOf r) from s .chosen in
-    let numbers : R .suits .number ≡ s .number = cc in
-    let them : R .suits .transforms ≡ s .transforms = cc in
+    let both : Chosen (R .chooses .number) (R .chooses .line) (R .chooses .transforms) ≡ Chosen (s .number) (s .line) (s .transforms) =
+    sym (R .chooses .chosen) ∙ chooses-too i r pair b (gotOf r) from s .chosen in
+    let numbers : R .chooses .number ≡ s .number = cc in
+    let them : R .chooses .transforms ≡ s .transforms = cc in
     rw (l .framed .its-id, body, l .identity-one, l .identity-two, numbers, them)
 
 -- ---- a good message at every stage
 
 module _ (i r : Party) (fi fr : List (List ℕ)) (pair : Pair (i .end .own) (r .end .own)) (b : Ask (i .end .own)) (first : Oldest (offered b) fi) where
-  pub good-second : Stage i r fi fr → (m output : List ℕ) → (stateOf r ≡ GivenUp → ⊥) → Chooses (r .end .own) (offered b) → FullSize r output → Heard m fi → GoodSecond i fr (called r (deliver m true output))
+  pub good-second : Stage i r fi fr → (m output : List ℕ) → (stateOf r ≡ GivenUp → ⊥) → Chooses (r .end .own) (offered b) → FullSize r output → Heard m fi →
+      GoodSecond i fr (called r (deliver m true output))
   good-second (new ei er ni nr) m output up c room h = clash (none-heard m ni h)
   good-second (asked a ei k o er nr) m output up c room h = good-answer i r pair a fr m output er (only-heard m o h) (rw (only-oldest o first) c) room
   good-second (half a ei k o R er) m output up c room h = good-again i r pair a fr R m output (answering-half (stateOf r) er up) (only-heard m o h) room
@@ -281,17 +302,20 @@ module _ (i r : Party) (fi fr : List (List ℕ)) (pair : Pair (i .end .own) (r .
       (past-up (stateOf r) er up)
 
   -- message 3 at the responder, where the initiator is open
-  pub third-opens : Stage i r fi fr → (m output : List ℕ) → (stateOf r ≡ GivenUp → ⊥) → stateOf i ≡ Open → alike m (messageThree (i .end .own) (b .id)) ≡ true → FullSize r output →
+  pub third-opens : Stage i r fi fr → (m output : List ℕ) → (stateOf r ≡ GivenUp → ⊥) → stateOf i ≡ Open → alike m (messageThree (i .end .own) (b .id)) ≡ true →
+      FullSize r output →
       stateOf (left (called r (deliver m true output))) ≡ Open
   third-opens (new ei er ni nr) m output up q s room = never (cc)
   third-opens (asked a ei k o er nr) m output up q s room = clash (cc)
   third-opens (half a ei k o R er) m output up q s room = clash (cc)
   third-opens (done a ei k o R er ev eg) m output up q s room =
-      ⊎-elim (λ h. opens-then i r pair a fr R m output h (rw (same-id i r pair a b (then-oldest o first)) at s) room) (λ h. ap stateOf (open-rests r h (deliver m true output)) ∙ h)
+      ⊎-elim (λ h. opens-then i r pair a fr R m output h (rw (same-id i r pair a b (then-oldest o first)) at s) room)
+      (λ h. ap stateOf (open-rests r h (deliver m true output)) ∙ h)
       (past-up (stateOf r) er up)
 
   -- message 2 at the initiator
-  pub good-first : Stage i r fi fr → (m output : List ℕ) → (stateOf i ≡ GivenUp → ⊥) → FullSize i output → Heard m fr → GoodFirst (messageThree (i .end .own) (b .id)) fi (called i (deliver m true output))
+  pub good-first : Stage i r fi fr → (m output : List ℕ) → (stateOf i ≡ GivenUp → ⊥) → FullSize i output → Heard m fr →
+      GoodFirst (messageThree (i .end .own) (b .id)) fi (called i (deliver m true output))
   unfolding opened
   good-first (new ei er ni nr) m output up room h = clash (none-heard m nr h)
   good-first (asked a ei k o er nr) m output up room h = clash (none-heard m nr h)
@@ -302,7 +326,8 @@ module _ (i r : Party) (fi fr : List (List ℕ)) (pair : Pair (i .end .own) (r .
       rw (sent-opens i r pair a fr R m output (asking-sent (stateOf i) ei up) k (only-heard m (R .only) h) room)
       (record {
         is-open = refl;
-        writes = sends-it i (messageThree (i .end .own) (i .end .progress .id)) progress (paste (i .got) 0 m) output short room fi ∙ ap (λ (n : ℕ). messageThree (i .end .own) n ∷ fi) three;
+        writes = sends-it i (messageThree (i .end .own) (i .end .progress .id)) progress (paste (i .got) 0 m) output short room fi
+            ∙ ap (λ (n : ℕ). messageThree (i .end .own) n ∷ fi) three;
       })
   good-first (done a ei k o R er ev eg) m output up room h =
       rw (open-again i r pair a fr R m output ei (k .its-id) eg (only-heard m (R .only) h) room, same-id i r pair a b (then-oldest o first))
@@ -357,15 +382,14 @@ module _ {w : World} (f : Fresh w) where
 
     -- at any moment u after message 1 was written, what is so of an offer of the initiator there is so of b
     module _ {u : World} (k : Run w u) (first : Oldest (offered b) (u .fromInitiator)) where
-      of-b : (A : (one two : Own) (c : Ask one) → Chooses two (offered c) → Type 0) →
-          ((c : Ask (u .initiator .end .own)) (t : Chooses (u .responder .end .own) (offered c)) → Oldest (offered c) (u .fromInitiator) → A (u .initiator .end .own) (u .responder .end .own) c t) →
+      abbrev ForEach : (A : (one two : Own) (c : Ask one) → Chooses two (offered c) → Type 0) (own other : Own) → Type 0
+      ForEach A own other = (c : Ask own) (t : Chooses other (offered c)) → Oldest (offered c) (u .fromInitiator) → A own other c t
+
+      of-b : (A : (one two : Own) (c : Ask one) → Chooses two (offered c) → Type 0) → ForEach A (u .initiator .end .own) (u .responder .end .own) →
           A (w .initiator .end .own) (w .responder .end .own) b s
       of-b A f =
-          subst (λ (one : Own). (c : Ask one) (t : Chooses (w .responder .end .own) (offered c)) → Oldest (offered c) (u .fromInitiator) → A one (w .responder .end .own) c t) (own-run k .0)
-          (subst (λ (two : Own). (c : Ask (u .initiator .end .own)) (t : Chooses two (offered c)) → Oldest (offered c) (u .fromInitiator) → A (u .initiator .end .own) two c t) (own-run k .1) f)
-          b
-          s
-          first
+          subst (λ (one : Own). ForEach A one (w .responder .end .own)) (own-run k .0)
+          (subst (λ (two : Own). ForEach A (u .initiator .end .own) two) (own-run k .1) f) b s first
 
       holding : Inv (u .initiator) (u .responder) (u .fromInitiator) (u .fromResponder)
       holding = always f k
@@ -382,7 +406,8 @@ module _ {w : World} (f : Fresh w) where
           of-b (λ one two c t. GoodFirst (messageThree one (c .id)) (u .fromInitiator) (called (u .initiator) (deliver m true output)))
           (λ c t o. good-first (u .initiator) (u .responder) (u .fromInitiator) (u .fromResponder) (holding .pair) c o (holding .stage) m output up room h)
 
-      arrives-third : (m output : List ℕ) → (stateOf (u .responder) ≡ GivenUp → ⊥) → FullSize (u .responder) output → stateOf (u .initiator) ≡ Open → alike m third-message ≡ true →
+      arrives-third : (m output : List ℕ) → (stateOf (u .responder) ≡ GivenUp → ⊥) → FullSize (u .responder) output → stateOf (u .initiator) ≡ Open →
+          alike m third-message ≡ true →
           stateOf (left (called (u .responder) (deliver m true output))) ≡ Open
       arrives-third m output up room q =
           of-b (λ one two c t. alike m (messageThree one (c .id)) ≡ true → stateOf (left (called (u .responder) (deliver m true output))) ≡ Open)
@@ -399,7 +424,8 @@ module _ {w : World} (f : Fresh w) where
           (λ c t o. written-three (u .initiator) (u .responder) (u .fromInitiator) (u .fromResponder) (holding .pair) c o (holding .stage) q)
 
     -- once message 1 has arrived, two has been written
-    pub two-written : {u z : World} → Run w u → Oldest (offered b) (u .fromInitiator) → (m output : List ℕ) → alike m (offered b) ≡ true → (stateOf (u .responder) ≡ GivenUp → ⊥) → FullSize (u .responder) output →
+    pub two-written : {u z : World} → Run w u → Oldest (offered b) (u .fromInitiator) → (m output : List ℕ) → alike m (offered b) ≡ true →
+        (stateOf (u .responder) ≡ GivenUp → ⊥) → FullSize (u .responder) output →
         Run (step u (atSecond (deliver m true output))) z → Only (second-message (w .responder .end .own) b s) (z .fromResponder)
     two-written {u} k first m output e up room l =
         let heard = oldest-heard m first e in
@@ -409,17 +435,21 @@ module _ {w : World} (f : Fresh w) where
         (⊎-elim (λ g. ap past (g .0)) (λ g. ap past (g .0)) (arrives-second k first m output up room heard)))
 
     -- once two has arrived, three has been written
-    pub three-written : {u z : World} → Run w u → Oldest (offered b) (u .fromInitiator) → (m output : List ℕ) → Heard m (u .fromResponder) → (stateOf (u .initiator) ≡ GivenUp → ⊥) → FullSize (u .initiator) output →
+    pub three-written : {u z : World} → Run w u → Oldest (offered b) (u .fromInitiator) → (m output : List ℕ) → Heard m (u .fromResponder) →
+        (stateOf (u .initiator) ≡ GivenUp → ⊥) → FullSize (u .initiator) output →
         Run (step u (atFirst (deliver m true output))) z → (stateOf (z .initiator) ≡ Open) × Then (offered b) third-message (z .fromInitiator)
     three-written {u} {z} k first m output h up room l =
         let there : Run w (step u (atFirst (deliver m true output))) = goes k (atFirst (deliver m true output)) (λ t. h) in
         let q = arrives-first k first m output up room h .is-open in
         let q′ : stateOf (z .initiator) ≡ Open = ap stateOf (open-run l .0 q) ∙ q in
-        let oldest : Oldest (offered b) (z .fromInitiator) = oldest-run l (oldest-said (called (u .initiator) (deliver m true output) .step .answer) (called (u .initiator) (deliver m true output) .output) first) in
+        let oldest : Oldest (offered b) (z .fromInitiator) =
+        oldest-run l
+        (oldest-said (called (u .initiator) (deliver m true output) .step .answer) (called (u .initiator) (deliver m true output) .output) first) in
         (q′, three-there (runs there l) oldest q′)
 
     -- once three has arrived, both are open
-    pub both-open : {u z : World} → Run w u → Oldest (offered b) (u .fromInitiator) → (m output : List ℕ) → alike m third-message ≡ true → stateOf (u .initiator) ≡ Open → (stateOf (u .responder) ≡ GivenUp → ⊥) →
+    pub both-open : {u z : World} → Run w u → Oldest (offered b) (u .fromInitiator) → (m output : List ℕ) → alike m third-message ≡ true →
+        stateOf (u .initiator) ≡ Open → (stateOf (u .responder) ≡ GivenUp → ⊥) →
         FullSize (u .responder) output → Run (step u (atSecond (deliver m true output))) z → (stateOf (z .initiator) ≡ Open) × (stateOf (z .responder) ≡ Open)
     both-open {u} {z} k first m output e q up room l =
         let opens = arrives-third k first m output up room q e in
@@ -464,7 +494,8 @@ module _ {w : World} (f : Fresh w) where
     pub begin-writes : afterBegin b .fromInitiator ≡ oneOf b ∷ []
     begin-writes =
         ap (λ (x : After). logged x (b .moment .fromInitiator)) its-call
-        ∙ sends-it (b .moment .initiator) (offered asks-then) (begins-with (b .moment .initiator) asks-then (b .output) .step .end .progress) (b .moment .initiator .got) (b .output) short-one (begins .room)
+        ∙ sends-it (b .moment .initiator) (offered asks-then) (begins-with (b .moment .initiator) asks-then (b .output) .step .end .progress)
+        (b .moment .initiator .got) (b .output) short-one (begins .room)
         (b .moment .fromInitiator)
         ∙ ap (λ (m : List ℕ). m ∷ b .moment .fromInitiator) same-one ∙ ap (λ (log : List (List ℕ)). oneOf b ∷ log) (silent f (b .run) (begins .is-idle))
 

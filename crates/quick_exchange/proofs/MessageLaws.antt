@@ -24,7 +24,7 @@ use Rattle.sa_proposals.proofs.Written.{offer-right}
 use Rattle.message_header.specs.Header.{exchangeOf, flagsOf, firstPayload, lengthWrong, majorWrong, minorWrong, exchangeRefused, exchangeUnknown, flagsWrong, cookieZero, messageIdWrong, flaggedLengthWrong, noPayload, headerCode}
 use Rattle.message_payload.specs.Payloads.{typeWrong, lengthOut, hashCode, nonceCode, bodyCode, bodyOf, payloadCode, restCode}
 use Rattle.message_chain.proofs.Laws.{count-more}
-use Rattle.message_chain.specs.Message.{payloads, inFront, chain, reading, exchangeAndCount, message, walk, payloadAt}
+use Rattle.message_chain.specs.Message.{inFront, chain, reading, exchangeAndCount, message, walk, payloadAt}
 use Rattle.message_chain.specs.declared.Payload.{Payload}
 use Rattle.message_chain.specs.declared.Message.the-variants.{Read}
 use Rattle.policy_choice.specs.Choice.{bodyAt}
@@ -37,6 +37,7 @@ use Rattle.quick_deliver.specs.Deliver.{identityAt}
 use Rattle.quick_end.specs.declared.Own.{Own}
 use Rattle.quick_end.specs.declared.State.{State}
 use Rattle.quick_shape.proofs.Laws.{Alike, alike-says}
+use Rattle.quick_exchange.specs.Readable.{Padded}
 use Rattle.quick_exchange.proofs.MessageShapes.{Fit, payloadsWith, saBody, Framed, Longer, Identities, Third}
 
 -- ---- one payload
@@ -74,23 +75,34 @@ record Right (exchange : ℕ) (offered : Bool) (type : ℕ) (body : List ℕ) : 
   known : typeWrong exchange type ≡ false
   passes : bodyCode exchange offered type body ≡ 0
 
-module _ {exchange : ℕ} {offered : Bool} {type : ℕ} {s : List ℕ} {next : ℕ} {body rest : List ℕ} (f : Front s next body rest) (r : Right exchange offered type body) where
+module _ {exchange : ℕ} {offered : Bool} {type : ℕ} {s : List ℕ} {next : ℕ} {body rest : List ℕ} (f : Front s next body rest)
+    (r : Right exchange offered type body) where
   -- such a payload at the front passes, and the chain goes on behind it
   payload-passes : payloadCode exchange offered type s ≡ 0
   unfolding payloadCode lengthOut bodyOf
   payload-passes =
       let w : 4 + length body ≤ length s = f .within in
-      rw (r .known, le-ltb (length s) 4 (omega (arith, w)), f .reserved, f .lies, le-ltb (4 + length body) 4 (omega arith), le-ltb (length s) (4 + length body) w, f .its-body) (r .passes)
+      rw (
+        r .known,
+        le-ltb (length s) 4 (omega (arith, w)),
+        f .reserved,
+        f .lies,
+        le-ltb (4 + length body) 4 (omega arith),
+        le-ltb (length s) (4 + length body) w,
+        f .its-body,
+      ) (r .passes)
 
   chain-on : (left start count : ℕ) → (next ≡ 0 → ⊥) →
-      exchangeAndCount exchange count (chain (suc left) exchange 1 offered type start s) ≡ exchangeAndCount exchange (count + 1) (chain left exchange 1 (offered || eqb type 1) next (start + (4 + length body)) rest)
+      exchangeAndCount exchange count (chain (suc left) exchange 1 offered type start s)
+      ≡ exchangeAndCount exchange (count + 1) (chain left exchange 1 (offered || eqb type 1) next (start + (4 + length body)) rest)
   unfolding chain
   chain-on left start count some =
       rw (payload-passes, f .next-field, ne-eqb next 0 some, f .lies, f .behind)
       (count-more exchange count _ (chain left exchange 1 (offered || eqb type 1) next (start + (4 + length body)) rest))
 
   -- "After the last: .. with flag 1 a rest over 15 bytes is 30, a nonzero byte in it 16"
-  chain-last : (left start count : ℕ) → next ≡ 0 → restCode 1 rest ≡ 0 → exchangeAndCount exchange count (chain (suc left) exchange 1 offered type start s) ≡ Read exchange (count + 1)
+  chain-last : (left start count : ℕ) → next ≡ 0 → restCode 1 rest ≡ 0 →
+      exchangeAndCount exchange count (chain (suc left) exchange 1 offered type start s) ≡ Read exchange (count + 1)
   unfolding chain inFront exchangeAndCount
   chain-last left start count e passes = rw (payload-passes, f .next-field, e, f .lies, f .behind, passes)
 
@@ -126,7 +138,10 @@ record Lies (m : List ℕ) (k type start : ℕ) (s : List ℕ) : Type 0 where
 module _ {m : List ℕ} {k type start : ℕ} {s : List ℕ} (l : Lies m k type start s) where
   lies-at : payloadAt k m ≡ record { payloadtype = type; start = start; length = numberAt 2 s 2 }
   unfolding walk
-  lies-at = ap (λ (j : ℕ). payloadAt j m) (sym (add-zero k)) ∙ l .walked 0 ∙ ap (λ (n : ℕ). record { payloadtype = type; start = start; length = n }) (sym (number-drop 2 start m 2) ∙ ap (λ (t : List ℕ). numberAt 2 t 2) (l .there))
+  lies-at =
+      ap (λ (j : ℕ). payloadAt j m) (sym (add-zero k)) ∙ l .walked 0
+      ∙ ap (λ (n : ℕ). record { payloadtype = type; start = start; length = n })
+      (sym (number-drop 2 start m 2) ∙ ap (λ (t : List ℕ). numberAt 2 t 2) (l .there))
 
   lies-type : payloadAt k m .payloadtype ≡ type
   lies-type = ap (λ (p : Payload). p .payloadtype) lies-at
@@ -139,7 +154,8 @@ module _ {m : List ℕ} {k type start : ℕ} {s : List ℕ} (l : Lies m k type s
     lies-on : Lies m (k + 1) next (start + (4 + length body)) rest
     unfolding walk
     lies-on = record {
-      walked = λ j. ap (λ (i : ℕ). payloadAt i m) (omega arith) ∙ l .walked (suc j) ∙ ap (λ (n : ℕ). walk j n (start + numberAt 2 m (start + 2)) m) type-on ∙ ap (λ (n : ℕ). walk j next (start + n) m) size-on;
+      walked = λ j. ap (λ (i : ℕ). payloadAt i m) (omega arith) ∙ l .walked (suc j) ∙ ap (λ (n : ℕ). walk j n (start + numberAt 2 m (start + 2)) m) type-on
+          ∙ ap (λ (n : ℕ). walk j next (start + n) m) size-on;
       there = sym (drop-drop (4 + length body) start m) ∙ ap (drop (4 + length body)) (l .there) ∙ f .behind;
     }
       where
@@ -176,14 +192,26 @@ record Head (own : Own) (id size : ℕ) (m s : List ℕ) : Type 0 where
 
 head-of : (own : Own) (id size : ℕ) (s : List ℕ) → Head own id size (header own id size ++ s) s
 unfolding header bytesOf
-head-of own id size s = record { one = refl; two = refl; payloadtype = refl; version = refl; exchange = refl; flag = refl; its-id = refl; its-size = refl; behind = refl; long = omega arith }
+head-of own id size s = record {
+  one = refl;
+  two = refl;
+  payloadtype = refl;
+  version = refl;
+  exchange = refl;
+  flag = refl;
+  its-id = refl;
+  its-size = refl;
+  behind = refl;
+  long = omega arith;
+}
 
 head-is : (own : Own) (id size : ℕ) (m s : List ℕ) → m ≡ header own id (28 + size) ++ s → size ≡ length s → Head own id (28 + length s) m s
 head-is own id size m s e el = rw (e, el) (head-of own id (28 + length s) s)
 
 number-of : (n i x : ℕ) (m : List ℕ) → take n (drop i m) ≡ bytesOf n x → x < 256 ^ n → numberAt n m i ≡ x
 number-of n i x m e small =
-    ap (numberAt n m) (sym (add-zero i)) ∙ sym (number-drop n i m 0) ∙ sym (number-take n n (drop i m) 0 (omega arith)) ∙ ap (λ (t : List ℕ). numberAt n t 0) e ∙ number-bytesOf n x small
+    ap (numberAt n m) (sym (add-zero i)) ∙ sym (number-drop n i m 0) ∙ sym (number-take n n (drop i m) 0 (omega arith)) ∙ ap (λ (t : List ℕ). numberAt n t 0) e
+    ∙ number-bytesOf n x small
 
 -- m is such a message of an exchange, and what stands behind its header fits
 record Frame (own : Own) (id : ℕ) (m s : List ℕ) : Type 0 where
@@ -236,7 +264,13 @@ module _ {own : Own} {id : ℕ} {m s : List ℕ} (f : Frame own id m s) where
       )
 
   head-framed : Framed own id m
-  head-framed = record { short = omega (arith, the-head .long, f .short); flag = the-head .flag; icookie = head-icookie; rcookie = head-rcookie; its-id = head-id }
+  head-framed = record {
+    short = omega (arith, the-head .long, f .short);
+    flag = the-head .flag;
+    icookie = head-icookie;
+    rcookie = head-rcookie;
+    its-id = head-id;
+  }
 
   head-reads : message m ≡ exchangeAndCount 32 0 (chain 32 32 1 false 8 28 s)
   unfolding message reading
@@ -244,7 +278,10 @@ module _ {own : Own} {id : ℕ} {m s : List ℕ} (f : Frame own id m s) where
 
   head-lies : Lies m 0 8 28 s
   unfolding payloadAt
-  head-lies = record { walked = λ j. ap (λ (k : ℕ). payloadAt k m) (zero-add j) ∙ ap (λ (type : ℕ). walk j type 28 m) (the-head .payloadtype); there = the-head .behind }
+  head-lies = record {
+    walked = λ j. ap (λ (k : ℕ). payloadAt k m) (zero-add j) ∙ ap (λ (type : ℕ). walk j type 28 m) (the-head .payloadtype);
+    there = the-head .behind;
+  }
 
 -- ---- the hash bytes
 
@@ -264,7 +301,8 @@ hashed front mid rest m lf lm a =
       bytes = take 32 (drop 32 m);
       thirty-two = length-take-le 32 (drop 32 m) (omega (arith, length-drop 32 m));
       is = sym (take-append-drop 32 m) ∙ ap (λ (t : List ℕ). t ++ drop 32 m) before
-          ∙ ap (λ (t : List ℕ). front ++ t) (sym (take-append-drop 32 (drop 32 m)) ∙ ap (λ (t : List ℕ). take 32 (drop 32 m) ++ t) (drop-drop 32 32 m ∙ behind));
+          ∙ ap (λ (t : List ℕ). front ++ t)
+          (sym (take-append-drop 32 (drop 32 m)) ∙ ap (λ (t : List ℕ). take 32 (drop 32 m) ++ t) (drop-drop 32 32 m ∙ behind));
     }
 
 -- ---- the padding: "Endpoints pad with the fewest zero bytes to 16"
@@ -276,13 +314,6 @@ padding-few n = omega arith
 padding-even : (n : ℕ) → (n + padding n) % 16 ≡ 0
 unfolding padding
 padding-even n = omega arith
-
--- behind its header a message has these payloads, and then fewer than 16 zero bytes, to a multiple of 16
-pub record Padded (payloads m : List ℕ) : Type 0 where
-  pub few : padding (length payloads) < 16
-  pub ends : drop 28 m ≡ payloads ++ zeros (padding (length payloads))
-  pub long : length m ≡ 28 + length payloads + padding (length payloads)
-  pub even : (length payloads + padding (length payloads)) % 16 ≡ 0
 
 length-padded : (ps : List ℕ) → length (padded ps) ≡ length ps + padding (length ps)
 unfolding padded
@@ -347,19 +378,30 @@ module _ (own : Own) (id next : ℕ) (behind m : List ℕ) where
       ∙ moved (header own id (28 + sizeSent)) (head next 36) (zeros 32) behind (zeros (padding (length sent)))
 
   length-front : length (header own id (28 + sizeSent) ++ head next 36) ≡ 32
-  length-front = length-append (header own id (28 + sizeSent)) (head next 36) ∙ omega (arith, length-head next 36, head-of own id (28 + sizeSent) [] .long, length-append (header own id (28 + sizeSent)) [])
+  length-front =
+      length-append (header own id (28 + sizeSent)) (head next 36)
+      ∙ omega (arith, length-head next 36, head-of own id (28 + sizeSent) [] .long, length-append (header own id (28 + sizeSent)) [])
 
   written : alike m (messageOf own id sent) ≡ true → Written own id next behind m
   unfolding headed
   written a =
       let h : Hashed (header own id (28 + sizeSent) ++ head next 36) (behind ++ zeros (padding (length sent))) m =
-      hashed (header own id (28 + sizeSent) ++ head next 36) (zeros 32) (behind ++ zeros (padding (length sent))) m length-front refl (alike-says m _ (rw sent-parts at a)) in
+      hashed (header own id (28 + sizeSent) ++ head next 36) (zeros 32) (behind ++ zeros (padding (length sent))) m length-front refl
+      (alike-says m _ (rw sent-parts at a)) in
       let as-headed : headed next (h .bytes) ≡ head next 36 ++ h .bytes = ap (λ (n : ℕ). head next (4 + n) ++ h .bytes) (h .thirty-two) in
       let whole : m ≡ header own id (28 + sizeSent) ++ (headed next (h .bytes) ++ (behind ++ zeros (padding (length sent)))) =
-      h .is ∙ joined (header own id (28 + sizeSent)) (head next 36) (h .bytes) _ ∙ ap (λ (t : List ℕ). header own id (28 + sizeSent) ++ (t ++ (behind ++ zeros (padding (length sent))))) (sym as-headed) in
+      h .is ∙ joined (header own id (28 + sizeSent)) (head next 36) (h .bytes) _
+      ∙ ap (λ (t : List ℕ). header own id (28 + sizeSent) ++ (t ++ (behind ++ zeros (padding (length sent))))) (sym as-headed) in
       let long : length (headed next (h .bytes) ++ (behind ++ zeros (padding (length sent)))) ≡ sizeSent =
       length-append (headed next (h .bytes)) _
-      ∙ omega (arith, length-headed next (h .bytes), h .thirty-two, length-append behind (zeros (padding (length sent))), length-zeros (padding (length sent)), length-sent) in
+      ∙ omega (
+        arith,
+        length-headed next (h .bytes),
+        h .thirty-two,
+        length-append behind (zeros (padding (length sent))),
+        length-zeros (padding (length sent)),
+        length-sent,
+      ) in
       record {
         bytes = h .bytes;
         thirty-two = h .thirty-two;
@@ -383,7 +425,8 @@ module _ (m : List ℕ) where
   unfolding shape typeIs
   shape-three k0 k1 k2 = rw (k0, k1, k2)
 
-  shape-five : payloadAt 0 m .payloadtype ≡ 8 → payloadAt 1 m .payloadtype ≡ 1 → payloadAt 2 m .payloadtype ≡ 10 → payloadAt 3 m .payloadtype ≡ 5 → payloadAt 4 m .payloadtype ≡ 5 → shape 5 m ≡ 5
+  shape-five : payloadAt 0 m .payloadtype ≡ 8 → payloadAt 1 m .payloadtype ≡ 1 → payloadAt 2 m .payloadtype ≡ 10 → payloadAt 3 m .payloadtype ≡ 5 →
+      payloadAt 4 m .payloadtype ≡ 5 → shape 5 m ≡ 5
   unfolding shape typeIs
   shape-five k0 k1 k2 k3 k4 = rw (k0, k1, k2, k3, k4)
 
@@ -427,7 +470,8 @@ sa-right ps reads =
     let four : length (bytesOf 4 1) ≡ 4 = length-bytesOf 4 1 in
     let doi : numberAt 4 (saBody ps) 0 ≡ 1 = number-append 4 (bytesOf 4 1) _ 0 (omega (arith, four)) ∙ number-bytesOf 4 1 (omega arith) in
     let situation : numberAt 4 (saBody ps) 4 ≡ 1 =
-    sym (number-drop 4 4 (saBody ps) 0) ∙ ap (λ (t : List ℕ). numberAt 4 t 0) (drop-at (bytesOf 4 1) (bytesOf 4 1 ++ ps) 4 four) ∙ number-append 4 (bytesOf 4 1) ps 0 (omega (arith, four)) ∙ number-bytesOf 4 1 (omega arith) in
+    sym (number-drop 4 4 (saBody ps) 0) ∙ ap (λ (t : List ℕ). numberAt 4 t 0) (drop-at (bytesOf 4 1) (bytesOf 4 1 ++ ps) 4 four)
+    ∙ number-append 4 (bytesOf 4 1) ps 0 (omega (arith, four)) ∙ number-bytesOf 4 1 (omega arith) in
     let behind : drop 8 (saBody ps) ≡ ps =
     sym (drop-drop 4 4 (saBody ps)) ∙ ap (drop 4) (drop-at (bytesOf 4 1) (bytesOf 4 1 ++ ps) 4 four) ∙ drop-at (bytesOf 4 1) ps 4 four in
     record { known = refl; passes = offer-right 32 (saBody ps) (omega (arith, length-sa ps)) doi situation (rw behind reads) }
@@ -449,8 +493,12 @@ data-few false size n others few rest h = rest h
 quick-few : (type : ℕ) (s : List ℕ) → quickData type s ≡ true → length s ≤ 32
 unfolding quickData
 quick-few type s =
-    data-few (eqb type 1) (length s) 4 _ (omega arith) (data-few (eqb type 4) (length s) 8 _ (omega arith) (data-few (eqb type 5) (length s) 16 _ (omega arith)
-    (data-few (eqb type 6) (length s) 32 _ (omega arith) (data-few (eqb type 7) (length s) 8 _ (omega arith) (data-few (eqb type 8) (length s) 32 false (omega arith) (λ h. clash h))))))
+    data-few (eqb type 1) (length s) 4 _ (omega arith)
+    (data-few (eqb type 4) (length s) 8 _ (omega arith)
+    (data-few (eqb type 5) (length s) 16 _ (omega arith)
+    (data-few (eqb type 6) (length s) 32 _ (omega arith)
+    (data-few (eqb type 7) (length s) 8 _ (omega arith)
+    (data-few (eqb type 8) (length s) 32 false (omega arith) (λ h. clash h))))))
 
 lawful-held : (test : Bool) (number : ℕ) → 0 < number → (if test then 0 else number) ≡ 0 → test ≡ true
 lawful-held true number some h = refl
@@ -499,7 +547,14 @@ module _ {own : Own} {id : ℕ} {ps : List ℕ} {next : ℕ} {tail m : List ℕ}
   size-all : length all ≡ 52 + (length ps + length nonce) + (length tail + p .its .pad)
   size-all =
       p .its .long
-      ∙ omega (arith, length-append (headed 10 sa) (headed next nonce ++ tail), length-append (headed next nonce) tail, length-headed 10 sa, length-headed next nonce, length-sa ps)
+      ∙ omega (
+        arith,
+        length-append (headed 10 sa) (headed next nonce ++ tail),
+        length-append (headed next nonce) tail,
+        length-headed 10 sa,
+        length-headed next nonce,
+        length-sa ps,
+      )
 
   frame : Frame own id m all
   frame = record {
@@ -562,7 +617,8 @@ module _ {own : Own} {id : ℕ} {ps : List ℕ} {next : ℕ} {tail m : List ℕ}
   is-three = shape-three m (lies-type (head-lies frame)) (lies-type lies-sa) (lies-type lies-nonce)
 
   -- "8-1-10-5-5"
-  module _ (one two : List ℕ) (five : next ≡ 5) (goes : tail ≡ headed 5 one ++ headed 0 two) (right-one : identityCode 32 one ≡ 0) (right-two : identityCode 32 two ≡ 0) where
+  module _ (one two : List ℕ) (five : next ≡ 5) (goes : tail ≡ headed 5 one ++ headed 0 two) (right-one : identityCode 32 one ≡ 0)
+      (right-two : identityCode 32 two ≡ 0) where
     abbrev last : List ℕ
     last = headed 0 two ++ zeros (p .its .pad)
 
@@ -594,8 +650,10 @@ module _ {own : Own} {id : ℕ} {ps : List ℕ} {next : ℕ} {tail m : List ℕ}
     body-two : bodyAt 4 m ≡ two
     body-two = lies-body lies-two front-two
 
-parts-of : (own : Own) (id : ℕ) (ps first second : List ℕ) → Fit own → 0 < id → id < 4294967296 → proposalsCode 16 32 0 proposals.none ps ≡ 0 → length ps ≤ 576 → (next : ℕ) (tail m : List ℕ) →
-    nonceAndIdentities (nonceOf own) first second ≡ headed next (nonceOf own) ++ tail → length tail ≤ 80 → alike m (longer own id ps first second) ≡ true → Parts own id ps next tail m
+parts-of : (own : Own) (id : ℕ) (ps first second : List ℕ) → Fit own → 0 < id → id < 4294967296 → proposalsCode 16 32 0 proposals.none ps ≡ 0 →
+    length ps ≤ 576 → (next : ℕ) (tail m : List ℕ) →
+    nonceAndIdentities (nonceOf own) first second ≡ headed next (nonceOf own) ++ tail → length tail ≤ 80 → alike m (longer own id ps first second) ≡ true →
+    Parts own id ps next tail m
 unfolding longer saOf
 parts-of own id ps first second fit some small ps-read ps-few next tail m follows few a = record {
   fit = fit;
@@ -645,7 +703,8 @@ length-some : (first second : List ℕ) → length first ≤ 36 → length secon
 length-some first second one two = omega (arith, length-append (headed 5 first) (headed 0 second), length-headed 5 first, length-headed 0 second)
 
 -- what both shapes have alike
-module _ {own : Own} {id : ℕ} {ps : List ℕ} {next : ℕ} {tail m : List ℕ} (p : Parts own id ps next tail m) (count : ℕ) (which : (count ≡ 3) ⊎ (count ≡ 5)) (reads : message m ≡ Read 32 count) (shaped : shape count m ≡ count) where
+module _ {own : Own} {id : ℕ} {ps : List ℕ} {next : ℕ} {tail m : List ℕ} (p : Parts own id ps next tail m) (count : ℕ) (which : (count ≡ 3) ⊎ (count ≡ 5))
+    (reads : message m ≡ Read 32 count) (shaped : shape count m ≡ count) where
   longer-of : (first second : List ℕ) → payloadsWith first ≡ count → identityAt 3 m ≡ first → identityAt 4 m ≡ second → Longer own id ps first second m
   longer-of first second e one two = record {
     framed = head-framed (frame p);
@@ -662,15 +721,19 @@ pub longer-reads : (own : Own) (id : ℕ) (ps first second : List ℕ) → Fit o
     proposalsCode 16 32 0 proposals.none ps ≡ 0 → length ps ≤ 576 → (m : List ℕ) → alike m (longer own id ps first second) ≡ true →
     Longer own id ps first second m
 longer-reads own id ps first second fit some small (inl (none-first, none-second)) ps-read ps-few m a =
-    let p : Parts own id ps 0 [] m = parts-of own id ps first second fit some small ps-read ps-few 0 [] m (behind-none (nonceOf own) first second none-first) (omega arith) a in
+    let p : Parts own id ps 0 [] m =
+    parts-of own id ps first second fit some small ps-read ps-few 0 [] m (behind-none (nonceOf own) first second none-first) (omega arith) a in
     let reads : message m ≡ Read 32 3 = three-read p refl refl in
     let shape-of : shapeOf m ≡ 3 = shape-read m 3 reads (is-three p) in
-    longer-of p 3 (inl refl) reads (is-three p) first second (with-none first none-first) (identity-none 3 m shape-of ∙ sym none-first) (identity-none 4 m shape-of ∙ sym none-second)
+    longer-of p 3 (inl refl) reads (is-three p) first second (with-none first none-first) (identity-none 3 m shape-of ∙ sym none-first)
+    (identity-none 4 m shape-of ∙ sym none-second)
 longer-reads own id ps first second fit some small (inr (right-one, right-two)) ps-read ps-few m a =
     let long-first : 4 ≤ length first = identity-size first right-one .0 in
-    let few : length (headed 5 first ++ headed 0 second) ≤ 80 = length-some first second (identity-size first right-one .1) (identity-size second right-two .1) in
+    let few : length (headed 5 first ++ headed 0 second) ≤ 80 =
+    length-some first second (identity-size first right-one .1) (identity-size second right-two .1) in
     let p : Parts own id ps 5 (headed 5 first ++ headed 0 second) m =
-    parts-of own id ps first second fit some small ps-read ps-few 5 (headed 5 first ++ headed 0 second) m (behind-some (nonceOf own) first second long-first) few a in
+    parts-of own id ps first second fit some small ps-read ps-few 5 (headed 5 first ++ headed 0 second) m
+    (behind-some (nonceOf own) first second long-first) few a in
     let reads : message m ≡ Read 32 5 = five-read p first second refl refl right-one right-two in
     let shaped : shape 5 m ≡ 5 = is-five p first second refl refl right-one right-two in
     let shape-of : shapeOf m ≡ 5 = shape-read m 5 reads shaped in
@@ -680,17 +743,20 @@ longer-reads own id ps first second fit some small (inr (right-one, right-two)) 
 
 -- ---- the checks of a delivery
 
-module _ (own other : Own) (id : ℕ) (m : List ℕ) (framed : Framed own id m) (same-icookie : other .icookie ≡ own .icookie) (same-rcookie : other .rcookie ≡ own .rcookie) where
+module _ (own other : Own) (id : ℕ) (m : List ℕ) (framed : Framed own id m) (same-icookie : other .icookie ≡ own .icookie)
+    (same-rcookie : other .rcookie ≡ own .rcookie) where
   cookies-right : cookiesNotOwn other m ≡ false
   unfolding cookiesNotOwn
-  cookies-right = rw (framed .icookie, framed .rcookie, same-icookie, same-rcookie, eq-eqb (own .icookie) (own .icookie) refl, eq-eqb (own .rcookie) (own .rcookie) refl)
+  cookies-right =
+      rw (framed .icookie, framed .rcookie, same-icookie, same-rcookie, eq-eqb (own .icookie) (own .icookie) refl, eq-eqb (own .rcookie) (own .rcookie) refl)
 
   -- "message ID (9; an Idle responder takes it)"
   id-right : (state : State) (at : ℕ) → (isIdle state ≡ true) ⊎ (at ≡ id) → (not (isIdle state) && not (eqb (numberAt 4 m 20) at)) ≡ false
   id-right state at (inl idle) = rw idle
   id-right state at (inr same) = by-test (isIdle state) (λ e. rw e) (λ e. rw (e, eq-eqb (numberAt 4 m 20) at (framed .its-id ∙ sym same)))
 
-  quick-passes : (state : State) (at count : ℕ) → (isInitiator (other .role) && isIdle state) ≡ false → (isIdle state ≡ true) ⊎ (at ≡ id) → shape count m ≡ count → 0 < count → quickCode other state at 32 count m ≡ 0
+  quick-passes : (state : State) (at count : ℕ) → (isInitiator (other .role) && isIdle state) ≡ false → (isIdle state ≡ true) ⊎ (at ≡ id) →
+      shape count m ≡ count → 0 < count → quickCode other state at 32 count m ≡ 0
   unfolding quickCode
   quick-passes state at count role given shaped some =
       rw (framed .flag, role, cookies-right, id-right state at given, shaped, ne-eqb count 0 (λ e. omega arith), le-ltb 2048 (length m) (framed .short))

@@ -148,7 +148,8 @@ identities-right first second h =
     by-test (eqb (length first) 0 && eqb (length second) 0)
     (λ e. let z = both (eqb (length first) 0) (eqb (length second) 0) e in inl (nil-of first (eqb-true _ _ (z .0)), nil-of second (eqb-true _ _ (z .1))))
     (λ e.
-    let k : (eqb (identityCode 32 first) 0 && eqb (identityCode 32 second) 0) ≡ true = rw e at (not-false (eqb (length first) 0 && eqb (length second) 0 || eqb (identityCode 32 first) 0 && eqb (identityCode 32 second) 0) h) in
+    let k : (eqb (identityCode 32 first) 0 && eqb (identityCode 32 second) 0) ≡ true =
+    rw e at (not-false (eqb (length first) 0 && eqb (length second) 0 || eqb (identityCode 32 first) 0 && eqb (identityCode 32 second) 0) h) in
     let z = both (eqb (identityCode 32 first) 0) (eqb (identityCode 32 second) 0) k in inr (eqb-true _ _ (z .0), eqb-true _ _ (z .1)))
 
 -- a begin that passes its checks
@@ -160,7 +161,8 @@ pub record Begins (p : Party) (id : ℕ) (first second output : List ℕ) : Type
   pub identities : Identities first second
   pub some : 0 < lines (bookOf (p .end .own))
 
-begin-passed : (p : Party) (id : ℕ) (first second output : List ℕ) → beginCode (p .end) id first second (small (p .sent) (p .got) output) ≡ 0 → Begins p id first second output
+begin-passed : (p : Party) (id : ℕ) (first second output : List ℕ) → beginCode (p .end) id first second (small (p .sent) (p .got) output) ≡ 0 →
+    Begins p id first second output
 unfolding beginCode
 begin-passed p id first second output h =
     let room = passed (small (p .sent) (p .got) output) 8192 _ (λ z. omega arith) h in
@@ -181,7 +183,15 @@ begin-passed p id first second output h =
 
 -- what it asks with
 abbrev pub ask-of : {p : Party} {id : ℕ} {first second output : List ℕ} → Begins p id first second output → id < 4294967296 → Ask (p .end .own)
-ask-of {p} {id} {first} {second} b narrow = record { id = id; first = first; second = second; some = b .some; some-id = b .some-id; small-id = narrow; identities = b .identities }
+ask-of {p} {id} {first} {second} b narrow = record {
+  id = id;
+  first = first;
+  second = second;
+  some = b .some;
+  some-id = b .some-id;
+  small-id = narrow;
+  identities = b .identities;
+}
 
 -- ---- what is written
 
@@ -196,7 +206,8 @@ keeps-it buffer m short room =
     rw e (in-front buffer m short room)
 
 -- a repeat: what is kept
-pub in-front-again : (sent output : List ℕ) (size : ℕ) → 2048 ≤ length sent → 2048 ≤ length output → take (min size 2048) (paste output 0 (kept size sent)) ≡ kept size sent
+pub in-front-again : (sent output : List ℕ) (size : ℕ) → 2048 ≤ length sent → 2048 ≤ length output →
+    take (min size 2048) (paste output 0 (kept size sent)) ≡ kept size sent
 unfolding kept
 in-front-again sent output size a b =
     let e : length (take (min size 2048) sent) ≡ min size 2048 = length-take-le (min size 2048) sent (omega arith) in
@@ -217,7 +228,8 @@ module _ (p : Party) (other : List (List ℕ)) where
     begins : (a : Ask (p .end .own)) (output : List ℕ) → FullSize p output → stateOf p ≡ Idle → MoveI (begins-with p a output)
     opens : (m output : List ℕ) → FullSize p output → stateOf p ≡ Sent → Heard m other → MoveI (opened (p .end) m (p .sent) (p .got) output)
     repeats : (output : List ℕ) → FullSize p output → stateOf p ≡ Open → MoveI (repeating (p .end) (p .sent) (p .got) output (p .end .progress))
-    resends : (output : List ℕ) → FullSize p output → waits (stateOf p) ≡ true → MoveI (repeating (p .end) (p .sent) (p .got) output (oneMore (p .end .progress)))
+    resends : (output : List ℕ) → FullSize p output → waits (stateOf p) ≡ true →
+        MoveI (repeating (p .end) (p .sent) (p .got) output (oneMore (p .end .progress)))
     gives-up : (output : List ℕ) → waits (stateOf p) ≡ true → MoveI (nothing (p .end) (p .sent) (p .got) output (withState GivenUp (p .end .progress)))
 
   -- a call of the responder
@@ -228,7 +240,8 @@ module _ (p : Party) (other : List (List ℕ)) where
     repeats : (output : List ℕ) → FullSize p output → stateOf p ≡ Half → MoveR (repeating (p .end) (p .sent) (p .got) output (p .end .progress))
     opens : (m output : List ℕ) → stateOf p ≡ Half → Heard m other → alike m (kept (p .end .progress .gotsize) (p .got)) ≡ false →
         MoveR (nothing (p .end) (p .sent) (p .got) output (withState Open (p .end .progress)))
-    resends : (output : List ℕ) → FullSize p output → waits (stateOf p) ≡ true → MoveR (repeating (p .end) (p .sent) (p .got) output (oneMore (p .end .progress)))
+    resends : (output : List ℕ) → FullSize p output → waits (stateOf p) ≡ true →
+        MoveR (repeating (p .end) (p .sent) (p .got) output (oneMore (p .end .progress)))
     gives-up : (output : List ℕ) → waits (stateOf p) ≡ true → MoveR (nothing (p .end) (p .sent) (p .got) output (withState GivenUp (p .end .progress)))
 
 -- ---- a call is refused, or passes its checks
@@ -242,7 +255,8 @@ waits-there Open a b c = clash (sym c)
 waits-there GivenUp a b c = clash (sym a)
 
 module _ (p : Party) (output : List ℕ) (A : After → Type 0) (refused : (number : ℕ) → A (refusing (p .end) (p .sent) (p .got) output number)) where
-  pub by-begin : (id : ℕ) (first second : List ℕ) → (Begins p id first second output → A (begin-with p id first second output)) → A (begun (p .end) id first second (p .sent) (p .got) output)
+  pub by-begin : (id : ℕ) (first second : List ℕ) → (Begins p id first second output → A (begin-with p id first second output)) →
+      A (begun (p .end) id first second (p .sent) (p .got) output)
   unfolding begun
   by-begin id first second passes =
       by-test (eqb (beginCode (p .end) id first second (small (p .sent) (p .got) output)) 0)
@@ -251,7 +265,8 @@ module _ (p : Party) (output : List ℕ) (A : After → Type 0) (refused : (numb
 
   pub by-tick : (isOpen (stateOf p) ≡ true → A (nothing (p .end) (p .sent) (p .got) output (p .end .progress))) →
       (FullSize p output → waits (stateOf p) ≡ true → A (repeating (p .end) (p .sent) (p .got) output (oneMore (p .end .progress)))) →
-      (waits (stateOf p) ≡ true → A (nothing (p .end) (p .sent) (p .got) output (withState GivenUp (p .end .progress)))) → A (ticked (p .end) (p .sent) (p .got) output)
+      (waits (stateOf p) ≡ true → A (nothing (p .end) (p .sent) (p .got) output (withState GivenUp (p .end .progress)))) →
+      A (ticked (p .end) (p .sent) (p .got) output)
   unfolding ticked tickCode
   by-tick still again over =
       by-test (not (eqb (tickCode (stateOf p) (small (p .sent) (p .got) output)) 0)) (λ e. rw e (refused _))
@@ -266,7 +281,8 @@ module _ (p : Party) (output : List ℕ) (A : After → Type 0) (refused : (numb
 
   pub by-delivery : (m : List ℕ) (holds : Bool) →
       (FullSize p output → holds ≡ true →
-      A (if isInitiator (p .end .own .role) then atInitiator (p .end) m (p .sent) (p .got) output (stateOf p) else atResponder (p .end) m (p .sent) (p .got) output (stateOf p))) →
+      A (if isInitiator (p .end .own .role) then atInitiator (p .end) m (p .sent) (p .got) output (stateOf p)
+      else atResponder (p .end) m (p .sent) (p .got) output (stateOf p))) →
       A (delivered (p .end) holds m (p .sent) (p .got) output)
   unfolding delivered deliveryCode
   by-delivery m holds taken =
@@ -279,13 +295,16 @@ module _ (p : Party) (output : List ℕ) (A : After → Type 0) (refused : (numb
 module _ (p : Party) (other : List (List ℕ)) where
   -- ---- at the initiator
 
-  at-first : (m output : List ℕ) → FullSize p output → Heard m other → (s : State) → stateOf p ≡ s → MoveI p other (atInitiator (p .end) m (p .sent) (p .got) output s)
+  at-first : (m output : List ℕ) → FullSize p output → Heard m other → (s : State) → stateOf p ≡ s →
+      MoveI p other (atInitiator (p .end) m (p .sent) (p .got) output s)
   unfolding atInitiator
   at-first m output room h Sent q =
       by-test (not (isLonger (shapeOf m))) (λ e. rw e (MoveI.refuses output _))
       (λ e.
-      by-test (not (eqb (takenCode (shapeOf m) (kept (p .end .progress .sentsize) (p .sent)) m) 0)) (λ f. rw (e, f) (MoveI.refuses output _)) (λ f. rw (e, f) (MoveI.opens m output room q h)))
-  at-first m output room h Open q = by-test (alike m (kept (p .end .progress .gotsize) (p .got))) (λ e. rw e (MoveI.repeats output room q)) (λ e. rw e (MoveI.refuses output _))
+      by-test (not (eqb (takenCode (shapeOf m) (kept (p .end .progress .sentsize) (p .sent)) m) 0)) (λ f. rw (e, f) (MoveI.refuses output _))
+      (λ f. rw (e, f) (MoveI.opens m output room q h)))
+  at-first m output room h Open q =
+      by-test (alike m (kept (p .end .progress .gotsize) (p .got))) (λ e. rw e (MoveI.repeats output room q)) (λ e. rw e (MoveI.refuses output _))
   at-first m output room h Idle q = MoveI.refuses output _
   at-first m output room h Half q = MoveI.refuses output _
   at-first m output room h GivenUp q = MoveI.refuses output _
@@ -296,21 +315,27 @@ module _ (p : Party) (other : List (List ℕ)) where
   moves-first role (begin id first second output) ok =
       by-begin p output (MoveI p other) (MoveI.refuses output) id first second (λ b. MoveI.begins (ask-of b ok) output (b .room) (b .is-idle))
   moves-first role (deliver m holds output) ok =
-      by-delivery p output (MoveI p other) (MoveI.refuses output) m holds (λ room h. rw (first-is (p .end .own .role) role) (at-first m output room (ok h) (stateOf p) refl))
-  moves-first role (tick output) ok = by-tick p output (MoveI p other) (MoveI.refuses output) (λ q. MoveI.rests output) (MoveI.resends output) (MoveI.gives-up output)
+      by-delivery p output (MoveI p other) (MoveI.refuses output) m holds
+      (λ room h. rw (first-is (p .end .own .role) role) (at-first m output room (ok h) (stateOf p) refl))
+  moves-first role (tick output) ok =
+      by-tick p output (MoveI p other) (MoveI.refuses output) (λ q. MoveI.rests output) (MoveI.resends output) (MoveI.gives-up output)
 
   -- ---- at the responder
 
-  answers-it : (m output : List ℕ) → FullSize p output → stateOf p ≡ Idle → Heard m other → (c : Choice) → chooseFrom 32 (bookOf (p .end .own)) (bodyAt 1 m) ≡ c →
+  answers-it : (m output : List ℕ) → FullSize p output → stateOf p ≡ Idle → Heard m other → (c : Choice) →
+      chooseFrom 32 (bookOf (p .end .own)) (bodyAt 1 m) ≡ c →
       MoveR p other (afterChoice (p .end) m (p .sent) (p .got) output c)
   unfolding afterChoice
   answers-it m output room q h (choices.Refused number) e = MoveR.refuses output number
-  answers-it m output room q h (choices.Chosen number line transforms) e = MoveR.answers m output (record { number = number; line = line; transforms = transforms; chosen = e }) room q h
+  answers-it m output room q h (choices.Chosen number line transforms) e =
+      MoveR.answers m output (record { number = number; line = line; transforms = transforms; chosen = e }) room q h
 
-  at-second : (m output : List ℕ) → FullSize p output → Heard m other → (s : State) → stateOf p ≡ s → MoveR p other (atResponder (p .end) m (p .sent) (p .got) output s)
+  at-second : (m output : List ℕ) → FullSize p output → Heard m other → (s : State) → stateOf p ≡ s →
+      MoveR p other (atResponder (p .end) m (p .sent) (p .got) output s)
   unfolding atResponder
   at-second m output room h Idle q =
-      by-test (not (isLonger (shapeOf m))) (λ e. rw e (MoveR.refuses output _)) (λ e. rw e (answers-it m output room q h (chooseFrom 32 (bookOf (p .end .own)) (bodyAt 1 m)) refl))
+      by-test (not (isLonger (shapeOf m))) (λ e. rw e (MoveR.refuses output _))
+      (λ e. rw e (answers-it m output room q h (chooseFrom 32 (bookOf (p .end .own)) (bodyAt 1 m)) refl))
   at-second m output room h Half q =
       by-test (alike m (kept (p .end .progress .gotsize) (p .got))) (λ e. rw e (MoveR.repeats output room q))
       (λ e. by-test (eqb (shapeOf m) 1) (λ f. rw (e, f) (MoveR.opens m output q h e)) (λ f. rw (e, f) (MoveR.refuses output _)))
@@ -325,8 +350,10 @@ module _ (p : Party) (other : List (List ℕ)) where
   moves-second role (begin id first second output) ok =
       by-begin p output (MoveR p other) (MoveR.refuses output) id first second (λ b. clash (sym (second-is (p .end .own .role) role) ∙ b .is-first))
   moves-second role (deliver m holds output) ok =
-      by-delivery p output (MoveR p other) (MoveR.refuses output) m holds (λ room h. rw (second-is (p .end .own .role) role) (at-second m output room (ok h) (stateOf p) refl))
-  moves-second role (tick output) ok = by-tick p output (MoveR p other) (MoveR.refuses output) (λ q. MoveR.rests output) (MoveR.resends output) (MoveR.gives-up output)
+      by-delivery p output (MoveR p other) (MoveR.refuses output) m holds
+      (λ room h. rw (second-is (p .end .own .role) role) (at-second m output room (ok h) (stateOf p) refl))
+  moves-second role (tick output) ok =
+      by-tick p output (MoveR p other) (MoveR.refuses output) (λ q. MoveR.rests output) (MoveR.resends output) (MoveR.gives-up output)
 
 -- no call changes what an end was given
 pub own-first : {p : Party} {other : List (List ℕ)} {x : After} → MoveI p other x → left x .end .own ≡ p .end .own
@@ -387,11 +414,13 @@ module _ (p : Party) (id : ℕ) (first second output : List ℕ) where
   pub begin-shut : p .end .own .role ≡ Responder → (number : ℕ) × (called p (begin id first second output) .step .answer ≡ Refused number)
   unfolding called
   begin-shut role =
-      by-begin p output (λ x. (number : ℕ) × (x .step .answer ≡ Refused number)) (λ number. (number, refl)) id first second (λ b. clash (sym (second-is (p .end .own .role) role) ∙ b .is-first))
+      by-begin p output (λ x. (number : ℕ) × (x .step .answer ≡ Refused number)) (λ number. (number, refl)) id first second
+      (λ b. clash (sym (second-is (p .end .own .role) role) ∙ b .is-first))
 
 -- ---- a delivery that passes its checks, as an equation
 
-module _ (p : Party) (m output : List ℕ) (room : FullSize p output) (up : isGivenUp (stateOf p) ≡ false) (reads : readCode (p .end .own) (stateOf p) (p .end .progress .id) m (message m) ≡ 0) where
+module _ (p : Party) (m output : List ℕ) (room : FullSize p output) (up : isGivenUp (stateOf p) ≡ false)
+    (reads : readCode (p .end .own) (stateOf p) (p .end .progress .id) m (message m) ≡ 0) where
   code-passes : deliveryCode (p .end) true m (small (p .sent) (p .got) output) ≡ 0
   unfolding deliveryCode
   code-passes = rw (not-small p output room, up) reads

@@ -40,11 +40,13 @@ use Rattle.quick_end.specs.declared.Own.{Own}
 -- "the suiting attributes with the line's seconds, sent fixed, in the order 4, 5 where there is one, 1, 2"
 module _ (mode high low : ℕ) where
   four-lawful : attributesCode 32 (0x80 ∷ 4 ∷ 0 ∷ mode ∷ 0x80 ∷ 5 ∷ 0 ∷ 20 ∷ 0x80 ∷ 1 ∷ 0 ∷ 1 ∷ 0x80 ∷ 2 ∷ high ∷ low ∷ []) ≡ 0
-  unfolding sentFixed attributeType attributeSize afterAttribute outOfBounds find attribute mustBeFixed fixedWrong isDuration durationWrong attributeCode attributesFrom attributesCode numberAt
+  unfolding sentFixed attributeType attributeSize afterAttribute outOfBounds find attribute mustBeFixed fixedWrong isDuration durationWrong attributeCode
+      attributesFrom attributesCode numberAt
   four-lawful = refl
 
   three-lawful : attributesCode 32 (0x80 ∷ 4 ∷ 0 ∷ mode ∷ 0x80 ∷ 1 ∷ 0 ∷ 1 ∷ 0x80 ∷ 2 ∷ high ∷ low ∷ []) ≡ 0
-  unfolding sentFixed attributeType attributeSize afterAttribute outOfBounds find attribute mustBeFixed fixedWrong isDuration durationWrong attributeCode attributesFrom attributesCode numberAt
+  unfolding sentFixed attributeType attributeSize afterAttribute outOfBounds find attribute mustBeFixed fixedWrong isDuration durationWrong attributeCode
+      attributesFrom attributesCode numberAt
   three-lawful = refl
 
 module _ (protocol i : ℕ) (book : List ℕ) where
@@ -76,20 +78,28 @@ module _ (id : ℕ) (list : List ℕ) where
   behind = refl
 
   lawful-transform : attributesCode 32 list ≡ 0 → length list ≤ 16 → LawfulTransform 32 the-transform
-  lawful-transform lawful short = record { long = omega (arith, transform-length); lies = lies short; reserved = reserved .0; also-reserved = reserved .1; attributes = rw behind lawful }
+  lawful-transform lawful short = record {
+    long = omega (arith, transform-length);
+    lies = lies short;
+    reserved = reserved .0;
+    also-reserved = reserved .1;
+    attributes = rw behind lawful;
+  }
 
 -- ---- a proposal of one transform
 
 -- p is such a proposal, with exchange 32 and at most 36 bytes
 data Single (next number protocol : ℕ) : List ℕ → Type 0 where
-  single : {high low : ℕ} {spi t : List ℕ} → Writes 32 next high low protocol spi t → length (spi ++ t) ≤ 28 → Single next number protocol (proposed next high low number protocol spi t)
+  single : {high low : ℕ} {spi t : List ℕ} → Writes 32 next high low protocol spi t → length (spi ++ t) ≤ 28 →
+      Single next number protocol (proposed next high low number protocol spi t)
 
 -- the proposal that is written anew around transform 1
 module _ (next number protocol id : ℕ) (spi list : List ℕ) where
   abbrev size : ℕ
   size = 8 + length (spi ++ the-transform id list)
 
-  is-proposed : proposalOf next number protocol spi (the-transform id list) ≡ proposed next (size / 256 % 256) (size % 256) number protocol spi (the-transform id list)
+  is-proposed : proposalOf next number protocol spi (the-transform id list)
+      ≡ proposed next (size / 256 % 256) (size % 256) number protocol spi (the-transform id list)
   unfolding proposalOf fields head headed bytesOf
   is-proposed = refl
 
@@ -108,7 +118,8 @@ module _ (next number protocol id : ℕ) (spi list : List ℕ) where
       } in
       rw is-proposed (single w few)
 
-proposed-item : (next high low number protocol : ℕ) (spi t : List ℕ) → Writes 32 next high low protocol spi t → Item 32 (proposed next high low number protocol spi t)
+proposed-item : (next high low number protocol : ℕ) (spi t : List ℕ) → Writes 32 next high low protocol spi t →
+    Item 32 (proposed next high low number protocol spi t)
 proposed-item next high low number protocol spi t w =
     let p : List ℕ = proposed next high low number protocol spi t in
     proposed-lawful 32 next high low number protocol spi t w [] 0 proposals.none (order-first (p ++ []))
@@ -117,7 +128,8 @@ proposed-item next high low number protocol spi t w =
 abbrev Alone : List ℕ → Type 0
 Alone p = (transformCount p ≡ 1) × (getD (transform 0 p) 0 0 ≡ 0)
 
-alone-at : (p : List ℕ) (ps : List (List ℕ)) → Alone p → ((j : ℕ) → j < length ps → Alone (getD ps j [])) → (j : ℕ) → j < length (p ∷ ps) → Alone (getD (p ∷ ps) j [])
+alone-at : (p : List ℕ) (ps : List (List ℕ)) → Alone p → ((j : ℕ) → j < length ps → Alone (getD ps j [])) → (j : ℕ) → j < length (p ∷ ps) →
+    Alone (getD (p ∷ ps) j [])
 alone-at p ps first others zero h = first
 alone-at p ps first others (suc j) h = others j (omega arith)
 
@@ -134,13 +146,15 @@ module _ {next number protocol : ℕ} where
 
   single-alone : {p : List ℕ} → Single next number protocol p → Alone p
   unfolding transformCount transform skip firstItem
-  single-alone (single {high} {low} {spi} {t} w few) = (refl, rw (alone-transforms 32 next high low number protocol spi t w, w .lawful .lies, take-length t) (w .last))
+  single-alone (single {high} {low} {spi} {t} w few) =
+      (refl, rw (alone-transforms 32 next high low number protocol spi t w, w .lawful .lies, take-length t) (w .last))
 
 -- ---- proposals one after the other
 
 -- a proposal's checks, whatever follows it
 module _ (next high low number protocol : ℕ) (spi t : List ℕ) (w : Writes 32 next high low protocol spi t) (rest : List ℕ) where
-  code : (previous : ℕ) (set : _) → previous ≤ number → has (setBefore previous set number) protocol ≡ false → proposalCode 32 previous set (proposed next high low number protocol spi t ++ rest) ≡ 0
+  code : (previous : ℕ) (set : _) → previous ≤ number → has (setBefore previous set number) protocol ≡ false →
+      proposalCode 32 previous set (proposed next high low number protocol spi t ++ rest) ≡ 0
   unfolding orderWrong
   code previous set low-enough new =
       let ordered : orderWrong previous set (proposed next high low number protocol spi t ++ rest) ≡ false = rw (le-ltb number previous low-enough) new in
@@ -154,12 +168,15 @@ module _ {number protocol : ℕ} (left previous : ℕ) (set : _) (low-enough : p
       let none : length (drop (numberAt 2 p 2) p) ≡ 0 = rw (proposed-item 0 high low number protocol spi t w .lies) (ap length (drop-length p)) in
       last-proposal left 32 previous set p (rw (append-nil p) at fine) refl none
 
-  more-read : {p : List ℕ} → Single 2 number protocol p → (rest : List ℕ) → proposalsCode left 32 number (with (setBefore previous set number) protocol) rest ≡ 0 →
+  more-read : {p : List ℕ} → Single 2 number protocol p → (rest : List ℕ) →
+      proposalsCode left 32 number (with (setBefore previous set number) protocol) rest ≡ 0 →
       proposalsCode (suc left) 32 previous set (p ++ rest) ≡ 0
   more-read (single {high} {low} {spi} {t} w few) rest reads =
       let p : List ℕ = proposed 2 high low number protocol spi t in
-      let behind-it : drop (numberAt 2 (p ++ rest) 2) (p ++ rest) ≡ rest = rw (proposed-size 32 2 high low number protocol spi t w rest) (drop-append-seam p rest) in
-      more-proposals left 32 previous set (p ++ rest) (code 2 high low number protocol spi t w rest previous set low-enough new) (λ z. omega arith) (rw behind-it reads)
+      let behind-it : drop (numberAt 2 (p ++ rest) 2) (p ++ rest) ≡ rest =
+      rw (proposed-size 32 2 high low number protocol spi t w rest) (drop-append-seam p rest) in
+      more-proposals left 32 previous set (p ++ rest) (code 2 high low number protocol spi t w rest previous set low-enough new) (λ z. omega arith)
+      (rw behind-it reads)
 
 -- ---- where a set ends
 
@@ -185,12 +202,14 @@ set-end n a rest stop (on {p = p} {ps = ps} i o r) (same-on e m) (suc left) h =
     let room : length a + 8 ≤ length (a ++ (p ++ behind)) = omega (arith, length-append a (p ++ behind), length-append p behind) in
     let long : ltb (length (a ++ (p ++ behind))) (length a + 8) ≡ false = le-ltb _ _ room in
     let number : getD (a ++ (p ++ behind)) (length a + 4) 0 ≡ n = getD-append-add a (p ++ behind) 4 0 ∙ List·getD-append p behind 0 4 (omega arith) ∙ e in
-    let size : numberAt 2 (a ++ (p ++ behind)) (length a + 2) ≡ length p = number-append-add 2 a (p ++ behind) 2 ∙ number-append 2 p behind 2 (omega arith) ∙ i .lies in
+    let size : numberAt 2 (a ++ (p ++ behind)) (length a + 2) ≡ length p =
+    number-append-add 2 a (p ++ behind) 2 ∙ number-append 2 p behind 2 (omega arith) ∙ i .lies in
     rw (append-assoc p (flatten ps) rest, long, number, eq-eqb n n refl, size, ← append-assoc a p behind, ← length-append a p)
     (set-end n (a ++ p) rest stop r m left (omega arith) ∙ omega (arith, length-append a p, length-append p (flatten ps)))
 
 -- a set of one or more proposals, in front of what is no more of it
-module _ (n : ℕ) {least : ℕ} {ps : List (List ℕ)} (rising : Rising 32 least ps) (same : Same n ps) (some : 1 ≤ length ps) (few : length ps ≤ 16) (rest : List ℕ) (stop : Ends n rest) where
+module _ (n : ℕ) {least : ℕ} {ps : List (List ℕ)} (rising : Rising 32 least ps) (same : Same n ps) (some : 1 ≤ length ps) (few : length ps ≤ 16) (rest : List ℕ)
+    (stop : Ends n rest) where
   begins : {least : ℕ} {ps : List (List ℕ)} → Rising 32 least ps → Same n ps → 1 ≤ length ps → (getD (flatten ps ++ rest) 4 0 ≡ n) × (8 ≤ length (flatten ps))
   unfolding flatten
   begins end m h = absurd (omega arith)
@@ -225,13 +244,15 @@ module _ (ah esp : ℕ) (book : List ℕ) (right-ah : (256 ≤ ah) × (ah < 4294
     unfolding lineProposal transformOne ownSpi protocolWrong
     ah-single =
         let right = attributes-right 2 i book in
-        written-single next (i + 1) 2 (quickId 2) (bytesOf 4 ah) (attributes 2 i book) follows refl (spi-keyed ah right-ah) (length-bytesOf 4 ah) (right .0) (right .1)
+        written-single next (i + 1) 2 (quickId 2) (bytesOf 4 ah) (attributes 2 i book) follows refl (spi-keyed ah right-ah) (length-bytesOf 4 ah) (right .0)
+        (right .1)
 
     esp-single : Single next (i + 1) 3 (lineProposal ah esp next 3 i book)
     unfolding lineProposal transformOne ownSpi protocolWrong
     esp-single =
         let right = attributes-right 3 i book in
-        written-single next (i + 1) 3 (quickId 3) (bytesOf 4 esp) (attributes 3 i book) follows refl (spi-keyed esp right-esp) (length-bytesOf 4 esp) (right .0) (right .1)
+        written-single next (i + 1) 3 (quickId 3) (bytesOf 4 esp) (attributes 3 i book) follows refl (spi-keyed esp right-esp) (length-bytesOf 4 esp) (right .0)
+        (right .1)
 
   -- the proposals of line i, "AH before ESP"
   line-items : ℕ → ℕ → List (List ℕ)
@@ -242,7 +263,8 @@ module _ (ah esp : ℕ) (book : List ℕ) (right-ah : (256 ≤ ah) × (ah < 4294
   module _ (next i : ℕ) where
     line-whole : flatten (line-items next i) ≡ lineSet ah esp next i book
     unfolding line-items lineSet flatten
-    line-whole = by-test (eqb (quickProtocols i book) 1) (λ e. rw e (append-nil _)) (λ e. rw e (ap (λ (l : List ℕ). lineProposal ah esp 2 2 i book ++ l) (append-nil _)))
+    line-whole =
+        by-test (eqb (quickProtocols i book) 1) (λ e. rw e (append-nil _)) (λ e. rw e (ap (λ (l : List ℕ). lineProposal ah esp 2 2 i book ++ l) (append-nil _)))
 
     line-few : (1 ≤ length (line-items next i)) × (length (line-items next i) ≤ 2)
     unfolding line-items
@@ -297,7 +319,9 @@ module _ (ah esp : ℕ) (book : List ℕ) (right-ah : (256 ≤ ah) × (ah < 4294
     -- it is taken off the front, where another number follows or nothing
     module _ (rest : List ℕ) (stop : Ends (i + 1) rest) where
       line-begins : (getD (lineSet ah esp next i book ++ rest) 4 0 ≡ i + 1) × (8 ≤ length (lineSet ah esp next i book))
-      line-begins = rw (← line-whole next i) (begins (i + 1) line-rising line-same (line-few next i .0) (omega (arith, line-few next i .1)) rest stop line-rising line-same (line-few next i .0))
+      line-begins =
+          rw (← line-whole next i)
+          (begins (i + 1) line-rising line-same (line-few next i .0) (omega (arith, line-few next i .1)) rest stop line-rising line-same (line-few next i .0))
 
       line-first : firstSet (lineSet ah esp next i book ++ rest) ≡ lineSet ah esp next i book
       line-first = rw (← line-whole next i) (first-set (i + 1) line-rising line-same (line-few next i .0) (omega (arith, line-few next i .1)) rest stop)
@@ -344,7 +368,9 @@ module _ (ah esp : ℕ) (book : List ℕ) (right-ah : (256 ≤ ah) × (ah < 4294
   lines-count zero i zero h = refl
   lines-count zero i (suc left) h = unfold lineSets in refl
   lines-count (suc n) i zero h = absurd (omega arith)
-  lines-count (suc n) i (suc left) h = rw (ne-eqb (length (lineSets (suc n) i ah esp book)) 0 (λ z. omega (arith, lines-long n i)), lines-after n i, lines-count n (i + 1) left (omega arith)) (omega arith)
+  lines-count (suc n) i (suc left) h =
+      rw (ne-eqb (length (lineSets (suc n) i ah esp book)) 0 (λ z. omega (arith, lines-long n i)), lines-after n i, lines-count n (i + 1) left (omega arith))
+      (omega arith)
 
   lines-place : (n i k : ℕ) → k < n → firstSet (skip afterSet k (lineSets n i ah esp book)) ≡ lineSet ah esp (nextSet (n - k)) (i + k) book
   unfolding skip
@@ -394,20 +420,22 @@ module _ (ah esp : ℕ) (book : List ℕ) (right-ah : (256 ≤ ah) × (ah < 4294
         let low : previous ≤ i + 1 = omega arith in
         let same : i + 1 ≤ i + 1 = omega arith in
         let second = more-read left (i + 1) (with (setBefore previous set (i + 1)) 2) same new-second last rest (reads left _ (omega arith)) in
-        let joined : (lineProposal ah esp 2 2 i book ++ lineProposal ah esp 2 3 i book) ++ rest ≡ lineProposal ah esp 2 2 i book ++ (lineProposal ah esp 2 3 i book ++ rest) =
-        append-assoc (lineProposal ah esp 2 2 i book) (lineProposal ah esp 2 3 i book) rest in
+        let joined = append-assoc (lineProposal ah esp 2 2 i book) (lineProposal ah esp 2 3 i book) rest in
         by-test (eqb (quickProtocols i book) 1) (λ e. rw e (more-read (suc left) previous set low (new-first 3) last rest (reads (suc left) _ (omega arith))))
         (λ e. rw (e, joined) (more-read (suc left) previous set low (new-first 2) (ah-single 2 (inr refl) i) (lineProposal ah esp 2 3 i book ++ rest) second))
 
   -- so many lines, of at most two proposals each
-  lines-read : (n i left previous : ℕ) (before : _) → previous ≤ i → 2 * suc n ≤ left → proposalsCode left 32 previous before (lineSets (suc n) i ah esp book) ≡ 0
+  lines-read : (n i left previous : ℕ) (before : _) → previous ≤ i → 2 * suc n ≤ left →
+      proposalsCode left 32 previous before (lineSets (suc n) i ah esp book) ≡ 0
   unfolding lineSets nextSet
   lines-read zero i left previous before above h =
       let two : left ≡ suc (suc (left - 2)) = omega arith in
       rw (two, append-nil (lineSet ah esp 0 i book)) (last-line previous before i above (left - 2))
   lines-read (suc n) i left previous before above h =
       let two : left ≡ suc (suc (left - 2)) = omega arith in
-      let behind-it = more-line previous before i above (left - 2) (lineSets (suc n) (i + 1) ah esp book) (λ more after l. lines-read n (i + 1) more (i + 1) after (omega arith) (omega arith)) in
+      let behind-it =
+      more-line previous before i above (left - 2) (lineSets (suc n) (i + 1) ah esp book)
+      (λ more after l. lines-read n (i + 1) more (i + 1) after (omega arith) (omega arith)) in
       rw (two, lt-leb (suc (suc n)) 1 (omega arith)) behind-it
 
 -- ---- the offer

@@ -97,11 +97,11 @@ agreement two g s = record {
 }
 
 pub record RepliedCalm {own : Own} (a : Ask own) (r : Party) (log : List (List ℕ)) : Type 0 where
-  pub suits : Chooses (r .end .own) (gotOf r)
+  pub chooses : Chooses (r .end .own) (gotOf r)
   pub from : alike (gotOf r) (offered a) ≡ true
-  pub keeps : Keeps r (a .id) (replyOf (r .end .own) (gotOf r) suits)
-  pub its-agreed : agreedOf r ≡ agreement (r .end .own) (gotOf r) suits
-  pub only : Only (replyOf (r .end .own) (gotOf r) suits) log
+  pub keeps : Keeps r (a .id) (replyOf (r .end .own) (gotOf r) chooses)
+  pub its-agreed : agreedOf r ≡ agreement (r .end .own) (gotOf r) chooses
+  pub only : Only (replyOf (r .end .own) (gotOf r) chooses) log
 
 -- the responder r has taken the offer of a as it got it, and all that it wrote, log, is its one reply
 abbrev pub Replied : {own : Own} → Ask own → Party → List (List ℕ) → Type 0
@@ -112,8 +112,10 @@ Replied a r log = RepliedCalm a (calm r) log
 pub data Stage (i r : Party) (fi fr : List (List ℕ)) : Type 0 where
   new : stateOf i ≡ Idle → stateOf r ≡ Idle → fi ≡ [] → fr ≡ [] → Stage i r fi fr
   asked : (a : Ask (i .end .own)) → asking (stateOf i) ≡ true → Keeps i (a .id) (offered a) → Only (offered a) fi → stateOf r ≡ Idle → fr ≡ [] → Stage i r fi fr
-  half : (a : Ask (i .end .own)) → asking (stateOf i) ≡ true → Keeps i (a .id) (offered a) → Only (offered a) fi → Replied a r fr → answering (stateOf r) ≡ true → Stage i r fi fr
-  done : (a : Ask (i .end .own)) → stateOf i ≡ Open → Keeps i (a .id) (messageThree (i .end .own) (a .id)) → Then (offered a) (messageThree (i .end .own) (a .id)) fi →
+  half : (a : Ask (i .end .own)) → asking (stateOf i) ≡ true → Keeps i (a .id) (offered a) → Only (offered a) fi → Replied a r fr →
+      answering (stateOf r) ≡ true → Stage i r fi fr
+  done : (a : Ask (i .end .own)) → stateOf i ≡ Open → Keeps i (a .id) (messageThree (i .end .own) (a .id)) →
+      Then (offered a) (messageThree (i .end .own) (a .id)) fi →
       Replied a r fr → past (stateOf r) ≡ true → agreedOf i ≡ agreedOf r → alike (gotOf i) (sentOf r) ≡ true → Stage i r fi fr
 
 pub record Inv (i r : Party) (fi fr : List (List ℕ)) : Type 0 where
@@ -128,15 +130,16 @@ again p id m output k room progress log = rw (in-front-again (p .sent) output (p
 replied-again : {own : Own} (a : Ask own) (r : Party) (log : List (List ℕ)) (output : List ℕ) → Replied a r log → FullSize r output → (progress : Progress) →
     Replied a r (logged (repeating (r .end) (r .sent) (r .got) output progress) log)
 replied-again a r log output R room progress =
-    rw (again r (a .id) (replyOf (r .end .own) (gotOf r) (R .suits)) output (R .keeps) room progress log)
-    (record { suits = R .suits; from = R .from; keeps = R .keeps; its-agreed = R .its-agreed; only = more (R .only) })
+    rw (again r (a .id) (replyOf (r .end .own) (gotOf r) (R .chooses)) output (R .keeps) room progress log)
+    (record { chooses = R .chooses; from = R .from; keeps = R .keeps; its-agreed = R .its-agreed; only = more (R .only) })
 
 -- an end that sends m first: that is written, and kept
 module _ (p : Party) (m : List ℕ) (progress : Progress) (taken output : List ℕ) (short : length m ≤ 2048) (room : FullSize p output) where
   pub sends-it : (log : List (List ℕ)) → logged (sending (p .end) (p .sent) (p .got) output m progress taken) log ≡ m ∷ log
   sends-it log = rw (in-front output m short (room .in-output))
 
-  pub keeps-sent : (id : ℕ) → progress .sentsize ≡ length m → progress .id ≡ id → 2048 ≤ length taken → Keeps (left (sending (p .end) (p .sent) (p .got) output m progress taken)) id m
+  pub keeps-sent : (id : ℕ) → progress .sentsize ≡ length m → progress .id ≡ id → 2048 ≤ length taken →
+      Keeps (left (sending (p .end) (p .sent) (p .got) output m progress taken)) id m
   keeps-sent id size eid got-room = record {
     sent-room = rw length-paste (room .in-sent);
     got-room = got-room;
@@ -186,7 +189,8 @@ module _ {one two : Own} (pair : Pair one two) (a : Ask one) (g : List ℕ) (fro
   two-short = two-read (replyOf two g s) (alike-same (replyOf two g s)) .framed .short
 
 -- the initiator begins
-begins-asked : (i r : Party) (fi fr : List (List ℕ)) → Pair (i .end .own) (r .end .own) → (a : Ask (i .end .own)) (output : List ℕ) → FullSize i output → fi ≡ [] → stateOf r ≡ Idle → fr ≡ [] →
+begins-asked : (i r : Party) (fi fr : List (List ℕ)) → Pair (i .end .own) (r .end .own) → (a : Ask (i .end .own)) (output : List ℕ) → FullSize i output →
+    fi ≡ [] → stateOf r ≡ Idle → fr ≡ [] →
     Stage (left (begins-with i a output)) r (logged (begins-with i a output) fi) fr
 begins-asked i r fi fr pair a output room none er nr =
     let short = one-short (pair .fit-one) a in
@@ -198,38 +202,46 @@ begins-asked i r fi fr pair a output room none er nr =
     nr
 
 -- message 2 arrives at the initiator: it opens, with the values that the responder has
-opens-done : (i r : Party) (fi fr : List (List ℕ)) → Pair (i .end .own) (r .end .own) → (a : Ask (i .end .own)) (R : Replied a r fr) → Keeps i (a .id) (offered a) → Only (offered a) fi → past (stateOf r) ≡ true →
-    (m output : List ℕ) → FullSize i output → Heard m fr → Stage (left (opened (i .end) m (i .sent) (i .got) output)) r (logged (opened (i .end) m (i .sent) (i .got) output) fi) fr
+opens-done : (i r : Party) (fi fr : List (List ℕ)) → Pair (i .end .own) (r .end .own) → (a : Ask (i .end .own)) (R : Replied a r fr) →
+    Keeps i (a .id) (offered a) → Only (offered a) fi → past (stateOf r) ≡ true →
+    (m output : List ℕ) → FullSize i output → Heard m fr →
+    Stage (left (opened (i .end) m (i .sent) (i .got) output)) r (logged (opened (i .end) m (i .sent) (i .got) output) fi) fr
 unfolding opened
 opens-done i r fi fr pair a R k o er m output room h =
-    let s : alike m (replyOf (r .end .own) (gotOf r) (R .suits)) ≡ true = only-heard m (R .only) h in
+    let s : alike m (replyOf (r .end .own) (gotOf r) (R .chooses)) ≡ true = only-heard m (R .only) h in
     let three : messageThree (i .end .own) (i .end .progress .id) ≡ messageThree (i .end .own) (a .id) = ap (messageThree (i .end .own)) (k .its-id) in
     let short : length (messageThree (i .end .own) (i .end .progress .id)) ≤ 2048 = rw three (three-short (pair .fit-one) a) in
     let progress : Progress = opened (i .end) m (i .sent) (i .got) output .step .end .progress in
-    let keeps-third = keeps-sent i (messageThree (i .end .own) (i .end .progress .id)) progress (paste (i .got) 0 m) output short room (a .id) refl (k .its-id) (rw length-paste (room .in-got)) in
+    let keeps-third =
+    keeps-sent i (messageThree (i .end .own) (i .end .progress .id)) progress (paste (i .got) 0 m) output short room (a .id) refl (k .its-id)
+    (rw length-paste (room .in-got)) in
     let log = sends-it i (messageThree (i .end .own) (i .end .progress .id)) progress (paste (i .got) 0 m) output short room fi in
-    let got = keeps-it (i .got) m (two-read pair a (gotOf r) (R .from) (R .suits) m s .framed .short) (room .in-got) in
+    let got = keeps-it (i .got) m (two-read pair a (gotOf r) (R .from) (R .chooses) m s .framed .short) (room .in-got) in
     done a refl
     (subst (λ (n : List ℕ). Keeps (left (opened (i .end) m (i .sent) (i .got) output)) (a .id) n) three keeps-third)
     (rw (log, three) (turn o))
     R
     er
-    (ap (λ (n : List ℕ). agreedTwo n m) (k .its-sent) ∙ two-agrees pair a (gotOf r) (R .from) (R .suits) m s ∙ sym (R .its-agreed))
+    (ap (λ (n : List ℕ). agreedTwo n m) (k .its-sent) ∙ two-agrees pair a (gotOf r) (R .from) (R .chooses) m s ∙ sym (R .its-agreed))
     (rw (got, R .keeps .its-sent) s)
 
 -- what the responder holds whose kept message is g
-replied-with : {own : Own} (a : Ask own) (r : Party) (log : List (List ℕ)) (g : List ℕ) → gotOf r ≡ g → (s : Chooses (r .end .own) g) → alike g (offered a) ≡ true →
+replied-with : {own : Own} (a : Ask own) (r : Party) (log : List (List ℕ)) (g : List ℕ) → gotOf r ≡ g → (s : Chooses (r .end .own) g) →
+    alike g (offered a) ≡ true →
     Keeps r (a .id) (replyOf (r .end .own) g s) → agreedOf r ≡ agreement (r .end .own) g s → Only (replyOf (r .end .own) g s) log → Replied a r log
 replied-with a r log g e =
     subst
-    (λ (k : List ℕ). (s : Chooses (r .end .own) k) → alike k (offered a) ≡ true → Keeps r (a .id) (replyOf (r .end .own) k s) → agreedOf r ≡ agreement (r .end .own) k s →
+    (λ (k : List ℕ). (s : Chooses (r .end .own) k) → alike k (offered a) ≡ true → Keeps r (a .id) (replyOf (r .end .own) k s) →
+    agreedOf r ≡ agreement (r .end .own) k s →
     Only (replyOf (r .end .own) k s) log → Replied a r log)
     e
-    (λ s from keeps its-agreed only. record { suits = s; from = from; keeps = keeps; its-agreed = its-agreed; only = only })
+    (λ s from keeps its-agreed only. record { chooses = s; from = from; keeps = keeps; its-agreed = its-agreed; only = only })
 
 -- message 1 arrives at the responder: it answers
-answers-half : (i r : Party) (fi fr : List (List ℕ)) → Pair (i .end .own) (r .end .own) → (a : Ask (i .end .own)) → asking (stateOf i) ≡ true → Keeps i (a .id) (offered a) → Only (offered a) fi → fr ≡ [] →
-    (m output : List ℕ) (s : Chooses (r .end .own) m) → FullSize r output → Heard m fi → Stage i (left (answers-with r m output s)) fi (logged (answers-with r m output s) fr)
+answers-half : (i r : Party) (fi fr : List (List ℕ)) → Pair (i .end .own) (r .end .own) → (a : Ask (i .end .own)) → asking (stateOf i) ≡ true →
+    Keeps i (a .id) (offered a) → Only (offered a) fi → fr ≡ [] →
+    (m output : List ℕ) (s : Chooses (r .end .own) m) → FullSize r output → Heard m fi →
+    Stage i (left (answers-with r m output s)) fi (logged (answers-with r m output s) fr)
 unfolding halfway
 answers-half i r fi fr pair a ei k o none m output s room h =
     let from : alike m (offered a) ≡ true = only-heard m o h in
@@ -298,7 +310,8 @@ module _ (i r : Party) (fi fr : List (List ℕ)) (pair : Pair (i .end .own) (r .
   stage-second (done a ei k o R er ev eg) (MoveR.answers m output s room q h) = clash (cc)
   stage-second (done a ei k o R er ev eg) (MoveR.repeats output room q) = done a ei k o (replied-again a r fr output R room (r .end .progress)) er ev eg
   stage-second (done a ei k o R er ev eg) (MoveR.opens m output q h d) = done a ei k o R refl ev eg
-  stage-second (done a ei k o R er ev eg) (MoveR.resends output room q) = done a ei k o (replied-again a r fr output R room (oneMore (r .end .progress))) er ev eg
+  stage-second (done a ei k o R er ev eg) (MoveR.resends output room q) =
+      done a ei k o (replied-again a r fr output R room (oneMore (r .end .progress))) er ev eg
   stage-second (done a ei k o R er ev eg) (MoveR.gives-up output q) = done a ei k o R refl ev eg
 
 -- ---- at every moment
@@ -360,14 +373,15 @@ past-cases Half e = inr (inl refl)
 past-cases Open e = inl refl
 past-cases GivenUp e = inr (inr refl)
 
-same-of : {i r : Party} {fi fr : List (List ℕ)} → Pair (i .end .own) (r .end .own) → Stage i r fi fr → stateOf i ≡ Open → Same i r × ((stateOf r ≡ Open) ⊎ (stateOf r ≡ Half) ⊎ (stateOf r ≡ GivenUp))
+same-of : {i r : Party} {fi fr : List (List ℕ)} → Pair (i .end .own) (r .end .own) → Stage i r fi fr → stateOf i ≡ Open →
+    Same i r × ((stateOf r ≡ Open) ⊎ (stateOf r ≡ Half) ⊎ (stateOf r ≡ GivenUp))
 unfolding nonce
 same-of pair (new ei er ni nr) q = never (cc)
 same-of pair (asked a ei k o er nr) q = clash (cc)
 same-of pair (half a ei k o R er) q = clash (cc)
 same-of {i} {r} {fi} {fr} pair (done a ei k o R er ev eg) q =
-    let reply : List ℕ = replyOf (r .end .own) (gotOf r) (R .suits) in
-    let two = two-read pair a (gotOf r) (R .from) (R .suits) in
+    let reply : List ℕ = replyOf (r .end .own) (gotOf r) (R .chooses) in
+    let two = two-read pair a (gotOf r) (R .from) (R .chooses) in
     let written : nonceIn (sentOf r) ≡ nonceOf (r .end .own) = ap nonceIn (R .keeps .its-sent) ∙ two reply (alike-same reply) .nonce in
     let taken : nonceIn (gotOf i) ≡ nonceOf (r .end .own) = two (gotOf i) (rw (R .keeps .its-sent) at eg) .nonce in (
       record {

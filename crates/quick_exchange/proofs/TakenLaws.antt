@@ -140,7 +140,8 @@ spi-number q x small e =
     let room : 4 ≤ n = omega (arith, length-take n (drop 8 q), ap length e, length-bytesOf 4 x) in
     sym (number-drop 4 8 q 0) ∙ sym (number-take 4 n (drop 8 q) 0 (omega arith)) ∙ ap (λ (l : List ℕ). numberAt 4 l 0) e ∙ number-bytesOf 4 x (omega arith)
 
-own-number : {exchange wanted : ℕ} → Known exchange wanted → exchange ≡ 32 → (ah esp : ℕ) → ah < 4294967296 → esp < 4294967296 → (q : List ℕ) → spi q ≡ ownSpi ah esp wanted →
+own-number : {exchange wanted : ℕ} → Known exchange wanted → exchange ≡ 32 → (ah esp : ℕ) → ah < 4294967296 → esp < 4294967296 → (q : List ℕ) →
+    spi q ≡ ownSpi ah esp wanted →
     numberAt 4 q 8 ≡ spiFor ah esp wanted
 unfolding ownSpi spiFor
 own-number isakmp h ah esp a e q is = absurd (omega arith)
@@ -164,14 +165,16 @@ proposal-taken : (ah esp : ℕ) (p q : List ℕ) → Taken ah esp p q → propos
 unfolding proposalTaken
 proposal-taken ah esp p q t = rw (t .same-protocol, t .one-transform, t .same-transform, eq-eqb (protocol p) (protocol p) refl, equal-same (transform 0 p))
 
-module _ (ah esp : ℕ) (s r : List ℕ) (as-many : proposalCount r ≡ proposalCount s) (few : (proposalCount s ≡ 1) ⊎ (proposalCount s ≡ 2)) (each : (j : ℕ) → j < proposalCount s → Taken ah esp (proposal j s) (proposal j r)) where
+module _ (ah esp : ℕ) (s r : List ℕ) (as-many : proposalCount r ≡ proposalCount s) (few : (proposalCount s ≡ 1) ⊎ (proposalCount s ≡ 2))
+    (each : (j : ℕ) → j < proposalCount s → Taken ah esp (proposal j s) (proposal j r)) where
   set-taken : setTaken r s ≡ true
   unfolding setTaken
   set-taken =
       let first : proposalTaken (proposal 0 r) (proposal 0 s) ≡ true = proposal-taken ah esp _ _ (each 0 (⊎-elim (λ e. omega arith) (λ e. omega arith) few)) in
       ⊎-elim
       (λ e. rw (first, as-many, eq-eqb (proposalCount s) (proposalCount s) refl, eq-eqb (proposalCount s) 1 e))
-      (λ e. rw (first, as-many, eq-eqb (proposalCount s) (proposalCount s) refl, proposal-taken ah esp _ _ (each 1 (omega arith))) (or-true (eqb (proposalCount s) 1)))
+      (λ e. rw (first, as-many, eq-eqb (proposalCount s) (proposalCount s) refl, proposal-taken ah esp _ _ (each 1 (omega arith)))
+      (or-true (eqb (proposalCount s) 1)))
       few
 
   own-spis : spisOf r ≡ ownSpis ah esp s
@@ -183,7 +186,8 @@ module _ (ah esp : ℕ) (s r : List ℕ) (as-many : proposalCount r ≡ proposal
       few
 
   -- the transforms are those that the choice named
-  same-transforms : (i : ℕ) (book : List ℕ) → ((j : ℕ) → j < proposalCount s → lowest 32 i book (proposal j s) - 1 ≡ 0) → transformsIn r ≡ transformsOf 32 i book s
+  same-transforms : (i : ℕ) (book : List ℕ) → ((j : ℕ) → j < proposalCount s → lowest 32 i book (proposal j s) - 1 ≡ 0) →
+      transformsIn r ≡ transformsOf 32 i book s
   unfolding transformsIn transformsOf numberOf
   same-transforms i book place =
       ⊎-elim
@@ -194,7 +198,8 @@ module _ (ah esp : ℕ) (s r : List ℕ) (as-many : proposalCount r ≡ proposal
 -- ---- "identities equal those sent"
 
 module _ (sent m first second : List ℕ) (shape-sent : shapeOf sent ≡ payloadsWith first) (shape-m : shapeOf m ≡ payloadsWith first) where
-  same-identities : identityAt 3 sent ≡ first → identityAt 4 sent ≡ second → identityAt 3 m ≡ first → identityAt 4 m ≡ second → identitiesSame (shapeOf m) sent m ≡ true
+  same-identities : identityAt 3 sent ≡ first → identityAt 4 sent ≡ second → identityAt 3 m ≡ first → identityAt 4 m ≡ second →
+      identitiesSame (shapeOf m) sent m ≡ true
   unfolding identitiesSame identityAt payloadsWith
   same-identities a b c d =
       by-test (eqb (length first) 0)
@@ -213,7 +218,8 @@ module _ (sent m first second : List ℕ) (shape-sent : shapeOf sent ≡ payload
 pub one-reads : (one : Own) → Fit one → 0 < lines (bookOf one) → (id : ℕ) → 0 < id → id < 4294967296 → (first second : List ℕ) → Identities first second →
     (g : List ℕ) → alike g (messageOne one id first second) ≡ true → Longer one id (offerOf one) first second g
 unfolding messageOne proposalsOf
-one-reads one fit some id some-id small-id first second ids g h = longer-reads one id (offerOf one) first second fit some-id small-id ids (offer-reads one fit some) (offer-short one fit) g h
+one-reads one fit some id some-id small-id first second ids g h =
+    longer-reads one id (offerOf one) first second fit some-id small-id ids (offer-reads one fit some) (offer-short one fit) g h
 
 pub choice-alike : (one : Own) → Fit one → 0 < lines (bookOf one) → (id : ℕ) → 0 < id → id < 4294967296 → (first second : List ℕ) → Identities first second →
     (g : List ℕ) → alike g (messageOne one id first second) ≡ true → bodyAt 1 g ≡ bodyAt 1 (messageOne one id first second)
@@ -223,7 +229,8 @@ choice-alike one fit some id some-id small-id first second ids g h =
 
 -- ---- the responder's answer
 
-module _ (one two : Own) (id : ℕ) (first second g : List ℕ) (number : ProposalNumber) (line : LineNumber) (transforms : Transforms) (answered : Answered one two id first second g number line transforms) where
+module _ (one two : Own) (id : ℕ) (first second g : List ℕ) (number : ProposalNumber) (line : LineNumber) (transforms : Transforms)
+    (answered : Answered one two id first second g number line transforms) where
   abbrev body : List ℕ
   body = saBody (offerOf one)
 
@@ -262,12 +269,16 @@ module _ (one two : Own) (id : ℕ) (first second g : List ℕ) (number : Propos
 
   repeats : Repeats 32 (two .ah) (two .esp) s (λ j. chosenIn 32 (choice .i) (bookOf two) (proposal j s)) reply
   repeats =
-      let r = reply-repeats 32 (choice .i) (two .ah) (two .esp) (bookOf two) s (choice .lawful) (choice .suits) (answered .fit-two .ah .1) (answered .fit-two .esp .1) low 0 in
+      let r =
+      reply-repeats 32 (choice .i) (two .ah) (two .esp) (bookOf two) s (choice .lawful) (choice .suits) (answered .fit-two .ah .1)
+      (answered .fit-two .esp .1) low 0 in
       rw (same-reply, sa-body ps 0) at r
 
   short : length ps ≤ 576
   short =
-      let h = reply-short 32 (choice .i) (two .ah) (two .esp) (bookOf two) s (choice .lawful) (choice .suits) (answered .fit-two .ah .1) (answered .fit-two .esp .1) low 0 in
+      let h =
+      reply-short 32 (choice .i) (two .ah) (two .esp) (bookOf two) s (choice .lawful) (choice .suits) (answered .fit-two .ah .1)
+      (answered .fit-two .esp .1) low 0 in
       omega (arith, sa-length ps, ap (λ (l : List ℕ). length (saOf 0 l)) same-reply)
 
   few : (proposalCount s ≡ 1) ⊎ (proposalCount s ≡ 2)
@@ -292,7 +303,8 @@ module _ (one two : Own) (id : ℕ) (first second g : List ℕ) (number : Propos
           same-protocol = a .same-protocol;
           one-transform = a .one-transform;
           same-transform = a .same-transform ∙ ap (λ (k : ℕ). 0 ∷ drop 1 (transform k p)) first-place ∙ same-bytes (transform 0 p) (omega arith) (offered .1);
-          own-spi = own-number (known-of 32 (getD p 5 0) (item .known)) refl (two .ah) (two .esp) (answered .fit-two .ah .1) (answered .fit-two .esp .1) (proposal j (set 0 reply)) (a .own-spi);
+          own-spi = own-number (known-of 32 (getD p 5 0) (item .known)) refl (two .ah) (two .esp) (answered .fit-two .ah .1) (answered .fit-two .esp .1)
+              (proposal j (set 0 reply)) (a .own-spi);
         }
 
   reply-number : proposalNumber (proposal 0 (set 0 reply)) ≡ number
@@ -305,7 +317,8 @@ module _ (one two : Own) (id : ℕ) (first second g : List ℕ) (number : Propos
     unfolding messageTwo proposalsOf
     answer =
         let h : alike n (longer two id ps first second) ≡ true = rw (by-number, got .framed .its-id, got .identity-one, got .identity-two) at from in
-        longer-reads two id ps first second (answered .fit-two) (answered .some-id) (answered .small-id) (answered .identities) (proposals-read ps (repeats .readable)) short n h
+        longer-reads two id ps first second (answered .fit-two) (answered .some-id) (answered .small-id) (answered .identities)
+        (proposals-read ps (repeats .readable)) short n h
 
     replied-is : repliedSet n ≡ set 0 reply
     unfolding repliedSet
@@ -319,15 +332,20 @@ module _ (one two : Own) (id : ℕ) (first second g : List ℕ) (number : Propos
     unfolding takenCode
     answer-taken =
         let whole : setTaken (set 0 reply) s ≡ true = set-taken (two .ah) (two .esp) s (set 0 reply) (repeats .as-many) few proposal-answers in
-        let same = same-identities (messageOne one id first second) n first second (sent .shape) (answer .shape) (sent .identity-one) (sent .identity-two) (answer .identity-one) (answer .identity-two) in
+        let same =
+        same-identities (messageOne one id first second) n first second (sent .shape) (answer .shape) (sent .identity-one) (sent .identity-two)
+        (answer .identity-one) (answer .identity-two) in
         rw (replied-is, offered-is, answer .sa, repeats .alone, whole, same)
 
-    answer-agreed : agreedTwo (messageOne one id first second) n ≡ record { set = number; transforms = transforms; initiator = spisOf s; responder = ownSpis (two .ah) (two .esp) s }
+    answer-agreed : agreedTwo (messageOne one id first second) n
+        ≡ record { set = number; transforms = transforms; initiator = spisOf s; responder = ownSpis (two .ah) (two .esp) s }
     unfolding agreedTwo
     answer-agreed =
         let transforms-are : transformsIn (set 0 reply) ≡ transforms =
-        same-transforms (two .ah) (two .esp) s (set 0 reply) (repeats .as-many) few proposal-answers (choice .i) (bookOf two) first-place ∙ sym (choice .taken) in
-        let spis-are : spisOf (set 0 reply) ≡ ownSpis (two .ah) (two .esp) s = own-spis (two .ah) (two .esp) s (set 0 reply) (repeats .as-many) few proposal-answers in
+        same-transforms (two .ah) (two .esp) s (set 0 reply) (repeats .as-many) few proposal-answers (choice .i) (bookOf two) first-place
+        ∙ sym (choice .taken) in
+        let spis-are : spisOf (set 0 reply) ≡ ownSpis (two .ah) (two .esp) s =
+        own-spis (two .ah) (two .esp) s (set 0 reply) (repeats .as-many) few proposal-answers in
         rw (replied-is, offered-is, reply-number, transforms-are, spis-are)
 
 pub two-reads : (one two : Own) (id : ℕ) (first second g : List ℕ) (number : ProposalNumber) (line : LineNumber) (transforms : Transforms) →
@@ -344,6 +362,11 @@ two-taken one two id first second g number line transforms answered n from = ans
 pub two-agreed : (one two : Own) (id : ℕ) (first second g : List ℕ) (number : ProposalNumber) (line : LineNumber) (transforms : Transforms) →
     Answered one two id first second g number line transforms → (n : List ℕ) → alike n (replyTo two g number transforms) ≡ true →
     agreedTwo (messageOne one id first second) n
-    ≡ record { set = number; transforms = transforms; initiator = spisOf (setNumbered number (bodyAt 1 g)); responder = ownSpis (two .ah) (two .esp) (setNumbered number (bodyAt 1 g)) }
+    ≡ record {
+      set = number;
+      transforms = transforms;
+      initiator = spisOf (setNumbered number (bodyAt 1 g));
+      responder = ownSpis (two .ah) (two .esp) (setNumbered number (bodyAt 1 g));
+    }
 two-agreed one two id first second g number line transforms answered n from =
     rw (by-number one two id first second g number line transforms answered) (answer-agreed one two id first second g number line transforms answered n from)

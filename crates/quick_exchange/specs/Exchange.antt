@@ -41,23 +41,23 @@ pub data Call : Type 0 where
   deliver : (m : Bytes) (holds : Bool) (output : Bytes) → Call
   tick : (output : Bytes) → Call
 
-unfoldable pub called : Party → Call → After
+unfoldable pub called : (p : Party) (call : Call) → After
 called p (begin id first second output) = begun (p .end) id first second (p .sent) (p .got) output
 called p (deliver m holds output) = delivered (p .end) holds m (p .sent) (p .got) output
 called p (tick output) = ticked (p .end) (p .sent) (p .got) output
 
 -- "Each call of an end gets the record its last call left and is lent its kept buffers, nothing else writes either"
-abbrev pub left : After → Party
-left a = record { end = a .step .end; sent = a .sent; got = a .got }
+abbrev pub left : (after : After) → Party
+left after = record { end = after .step .end; sent = after .sent; got = after .got }
 
 -- a call that answers with a message to send has written it: the front of the output it leaves
-abbrev pub said : StepAnswer → Bytes → List Bytes → List Bytes
+abbrev pub said : (answer : StepAnswer) (output : Bytes) (log : List Bytes) → List Bytes
 said (Send size) output log = take size output ∷ log
 said Nothing output log = log
 said (Refused number) output log = log
 
-abbrev pub logged : After → List Bytes → List Bytes
-logged a log = said (a .step .answer) (a .output) log
+abbrev pub logged : (after : After) (log : List Bytes) → List Bytes
+logged after log = said (after .step .answer) (after .output) log
 
 -- the two ends, and what each has written so far, the newest first
 pub record World : Type 0 where
@@ -68,10 +68,10 @@ pub record World : Type 0 where
 
 -- an event is a call of one of the two, the initiator being the first
 pub data Event : Type 0 where
-  atFirst : Call → Event
-  atSecond : Call → Event
+  atFirst : (call : Call) → Event
+  atSecond : (call : Call) → Event
 
-abbrev pub step : World → Event → World
+abbrev pub step : (w : World) (event : Event) → World
 step w (atFirst c) = record {
   initiator = left (called (w .initiator) c);
   responder = w .responder;
@@ -91,19 +91,19 @@ pub data Heard (m : Bytes) : List Bytes → Type 0 where
   there : {n : Bytes} {log : List Bytes} → Heard m log → Heard m (n ∷ log)
 
 -- "an end is told that a hash holds only for a message the other end wrote in this exchange"; a message ID has 32 bits
-abbrev pub Allowed : List Bytes → Call → Type 0
+abbrev pub Allowed : (other : List Bytes) (call : Call) → Type 0
 Allowed other (begin id first second output) = id < 4294967296
 Allowed other (deliver m holds output) = holds ≡ true → Heard m other
 Allowed other (tick output) = Unit {0}
 
-abbrev pub Fair : World → Event → Type 0
+abbrev pub Fair : (w : World) (event : Event) → Type 0
 Fair w (atFirst c) = Allowed (w .fromResponder) c
 Fair w (atSecond c) = Allowed (w .fromInitiator) c
 
 -- "The network may lose, repeat or reorder messages": any events in any order
 pub data Run (w : World) : World → Type 0 where
   rest : Run w w
-  goes : {u : World} → Run w u → (ev : Event) → Fair u ev → Run w (step u ev)
+  goes : {u : World} → Run w u → (event : Event) → Fair u event → Run w (step u event)
 
 -- an end that `fresh` has made, of numbers as wide as its types have them
 pub record FreshEnd (role : Role) (icookie rcookie : ℕ) (end : End) : Type 0 where
@@ -128,17 +128,17 @@ pub record Fresh (w : World) : Type 0 where
 
 -- ---- what the theorems speak of
 
-abbrev pub stateOf : Party → State
+abbrev pub stateOf : (p : Party) → State
 stateOf p = p .end .progress .state
 
 -- the messages that an end has kept, and the values that it has agreed to
-abbrev pub sentOf : Party → Bytes
+abbrev pub sentOf : (p : Party) → Bytes
 sentOf p = kept (p .end .progress .sentsize) (p .sent)
 
-abbrev pub gotOf : Party → Bytes
+abbrev pub gotOf : (p : Party) → Bytes
 gotOf p = kept (p .end .progress .gotsize) (p .got)
 
-abbrev pub agreedOf : Party → Agreed
+abbrev pub agreedOf : (p : Party) → Agreed
 agreedOf p = p .end .progress .agreed
 
 -- "the same proposal set, transforms, SPIs and nonces", as a caller asks for them: of the record, and by `nonce` of the two messages kept.
@@ -183,10 +183,10 @@ pub record Beginning (w : World) : Type 0 where
   pub narrow : id < 4294967296
   pub unrefused : (number : ℕ) → called (moment .initiator) (begin id first second output) .step .answer ≡ Refused number → ⊥
 
-abbrev pub beginCall : {w : World} → Beginning w → Call
+abbrev pub beginCall : {w : World} (b : Beginning w) → Call
 beginCall b = begin (b .id) (b .first) (b .second) (b .output)
 
-abbrev pub afterBegin : {w : World} → Beginning w → World
+abbrev pub afterBegin : {w : World} (b : Beginning w) → World
 afterBegin b = step (b .moment) (atFirst (beginCall b))
 
 -- "the responder's policy suits the offer" that message m has
@@ -197,13 +197,13 @@ pub record Chooses (own : Own) (m : Bytes) : Type 0 where
   pub chosen : chooseFrom 32 (bookOf own) (bodyAt 1 m) ≡ Chosen number line transforms
 
 -- the three messages: what the ends were given, what begin was called with, and what the responder's policy chooses determine them
-abbrev pub oneOf : {w : World} → Beginning w → Bytes
+abbrev pub oneOf : {w : World} (b : Beginning w) → Bytes
 oneOf {w} b = messageOne (w .initiator .end .own) (b .id) (b .first) (b .second)
 
-abbrev pub twoOf : {w : World} (b : Beginning w) → Chooses (w .responder .end .own) (oneOf b) → Bytes
+abbrev pub twoOf : {w : World} (b : Beginning w) (s : Chooses (w .responder .end .own) (oneOf b)) → Bytes
 twoOf {w} b s = messageTwo (w .responder .end .own) (b .id) (s .transforms) (setNumbered (s .number) (bodyAt 1 (oneOf b))) (b .first) (b .second)
 
-abbrev pub threeOf : {w : World} → Beginning w → Bytes
+abbrev pub threeOf : {w : World} (b : Beginning w) → Bytes
 threeOf {w} b = messageThree (w .initiator .end .own) (b .id)
 
 -- message m arrives at p, equal apart from the hash: "hashes are good, buffers full size", and p has not given up
@@ -214,5 +214,5 @@ pub record Arrives (m : Bytes) (p : Party) : Type 0 where
   pub full : FullSize p output
   pub up : stateOf p ≡ GivenUp → ⊥
 
-abbrev pub delivery : {m : Bytes} {p : Party} → Arrives m p → Call
-delivery x = deliver (x .bytes) true (x .output)
+abbrev pub delivery : {m : Bytes} {p : Party} (arrival : Arrives m p) → Call
+delivery arrival = deliver (arrival .bytes) true (arrival .output)
