@@ -1,5 +1,5 @@
--- Demand three, sentence by sentence, over the exchange as crates/exchange/specs/Exchange.antt has it: for every two ends that start fresh
--- with the same cookies, every order of calls and every network. The one premise is `Fair` there.
+-- Demand three, sentence by sentence, over the exchange as crates/quick_exchange/specs/Exchange.antt has it: for every two ends that start
+-- fresh with the same cookies, every order of calls and every network. The one premise is `Fair` there.
 use Prim.Native.Nat.{ℕ}
 use mathlib.Core.Path.{_≡_, ap, _∙_}
 use mathlib.Core.Logic.{_⊎_}
@@ -18,7 +18,8 @@ use Rattle.quick_exchange.proofs.Liveness as liveness
 use Rattle.quick_exchange.proofs.Example.{reached}
 
 -- "An open end stays open with the same values": its record and its kept buffers stay as they are.
-pub open-stays : {u z : World} → Run u z → (stateOf (u .initiator) ≡ Open → z .initiator ≡ u .initiator) × (stateOf (u .responder) ≡ Open → z .responder ≡ u .responder)
+pub open-stays : {u z : World} → Run u z →
+    (stateOf (u .initiator) ≡ Open → z .initiator ≡ u .initiator) × (stateOf (u .responder) ≡ Open → z .responder ≡ u .responder)
 open-stays k = liveness.open-run k
 
 module _ {w : World} (fresh : Fresh w) where
@@ -34,7 +35,8 @@ module _ {w : World} (fresh : Fresh w) where
 
   -- the nonces are those that the two were given
   pub nonces-given : {u : World} → Run w u → stateOf (u .initiator) ≡ Open →
-      (nonce Initiator (gotOf (u .responder)) (sentOf (u .responder)) ≡ fresh .first .nonce) × (nonce Responder (gotOf (u .responder)) (sentOf (u .responder)) ≡ fresh .second .nonce)
+      (nonce Initiator (gotOf (u .responder)) (sentOf (u .responder)) ≡ fresh .first .nonce) ×
+      (nonce Responder (gotOf (u .responder)) (sentOf (u .responder)) ≡ fresh .second .nonce)
   nonces-given k q =
       let same = same-both fresh k q .0 in
       let own = liveness.own-run fresh k in
@@ -43,33 +45,41 @@ module _ {w : World} (fresh : Fresh w) where
       (same .initiator-nonce ∙ ap nonceOf (own .0) ∙ one .its-nonce, same .responder-own ∙ ap nonceOf (own .1) ∙ two .its-nonce)
 
   -- "A begin that isn't refused writes message one": it answers with it, and it is the first that the initiator has written.
-  pub begin-writes : (b : Beginning w) → (called (b .moment .initiator) (beginCall b) .step .answer ≡ Send (length (oneOf b))) × (afterBegin b .fromInitiator ≡ oneOf b ∷ [])
+  pub begin-writes : (b : Beginning w) →
+      (called (b .moment .initiator) (beginCall b) .step .answer ≡ Send (length (oneOf b))) × (afterBegin b .fromInitiator ≡ oneOf b ∷ [])
   begin-writes b = (liveness.begin-answers fresh b, liveness.begin-writes fresh b)
 
   -- at the responder every begin is refused
-  pub begin-at-responder : {u : World} → Run w u → (id : ℕ) (first second output : List ℕ) → (number : ℕ) × (called (u .responder) (begin id first second output) .step .answer ≡ Refused number)
+  pub begin-at-responder : {u : World} → Run w u → (id : ℕ) (first second output : List ℕ) →
+      (number : ℕ) × (called (u .responder) (begin id first second output) .step .answer ≡ Refused number)
   begin-at-responder {u} k id first second output = begin-shut (u .responder) id first second output (always fresh k .pair .is-second)
 
   -- "If the responder's policy suits the offer, hashes are good, buffers full size and neither end has given up, then .."
   module _ (b : Beginning w) (s : Chooses (w .responder .end .own) (oneOf b)) where
     -- ".. once message one has arrived, two has been written": at every moment after that it is all that the responder has written
-    pub two-written : {a z : World} → Run (afterBegin b) a → (x : Arrives (oneOf b) (a .responder)) → Run (step a (atSecond (delivery x))) z → Only (twoOf b s) (z .fromResponder)
+    pub two-written : {a z : World} → Run (afterBegin b) a → (x : Arrives (oneOf b) (a .responder)) →
+        Run (step a (atSecond (delivery x))) z → Only (twoOf b s) (z .fromResponder)
     two-written k x l = liveness.two-then fresh b s k x l
 
     -- "once two has arrived after it, three has been written": at every moment after that the initiator is open, and has written message one and
     -- then message three, nothing else
-    pub three-written : {a c z : World} → Run (afterBegin b) a → (x : Arrives (oneOf b) (a .responder)) → Run (step a (atSecond (delivery x))) c → (y : Arrives (twoOf b s) (c .initiator)) →
+    pub three-written : {a c z : World} → Run (afterBegin b) a → (x : Arrives (oneOf b) (a .responder)) →
+        Run (step a (atSecond (delivery x))) c → (y : Arrives (twoOf b s) (c .initiator)) →
         Run (step c (atFirst (delivery y))) z → (stateOf (z .initiator) ≡ Open) × Then (oneOf b) (threeOf b) (z .fromInitiator)
     three-written k x l y j = liveness.three-then fresh b s k x l y j
 
     -- "and once three has arrived after that, both are open": at every moment after that
-    pub handshake : {a c d z : World} → Run (afterBegin b) a → (x : Arrives (oneOf b) (a .responder)) → Run (step a (atSecond (delivery x))) c → (y : Arrives (twoOf b s) (c .initiator)) →
-        Run (step c (atFirst (delivery y))) d → (v : Arrives (threeOf b) (d .responder)) → Run (step d (atSecond (delivery v))) z → (stateOf (z .initiator) ≡ Open) × (stateOf (z .responder) ≡ Open)
+    pub handshake : {a c d z : World} → Run (afterBegin b) a → (x : Arrives (oneOf b) (a .responder)) →
+        Run (step a (atSecond (delivery x))) c → (y : Arrives (twoOf b s) (c .initiator)) →
+        Run (step c (atFirst (delivery y))) d → (v : Arrives (threeOf b) (d .responder)) →
+        Run (step d (atSecond (delivery v))) z → (stateOf (z .initiator) ≡ Open) × (stateOf (z .responder) ≡ Open)
     handshake k x l y j v i = liveness.open-then fresh b s k x l y j v i
 
     -- the three arrivals are ones that the premise on hashes allows: that each message was written is a conclusion
-    pub arrivals-fair : {a c d : World} (k : Run (afterBegin b) a) (x : Arrives (oneOf b) (a .responder)) (l : Run (step a (atSecond (delivery x))) c) (y : Arrives (twoOf b s) (c .initiator))
-        (j : Run (step c (atFirst (delivery y))) d) (v : Arrives (threeOf b) (d .responder)) → Fair a (atSecond (delivery x)) × Fair c (atFirst (delivery y)) × Fair d (atSecond (delivery v))
+    pub arrivals-fair : {a c d : World} (k : Run (afterBegin b) a) (x : Arrives (oneOf b) (a .responder))
+        (l : Run (step a (atSecond (delivery x))) c) (y : Arrives (twoOf b s) (c .initiator))
+        (j : Run (step c (atFirst (delivery y))) d) (v : Arrives (threeOf b) (d .responder)) →
+        Fair a (atSecond (delivery x)) × Fair c (atFirst (delivery y)) × Fair d (atSecond (delivery v))
     arrivals-fair k x l y j v = (liveness.one-fair fresh b s k x, liveness.two-fair fresh b s k x l y, liveness.three-fair fresh b s k x l y j v)
 
 -- not said of nothing: an exchange in which message one is lost and sent again, arrives twice with the hash bytes filled in, and both ends

@@ -79,9 +79,10 @@ pub record Around (exchange : ℕ) (payload h : List ℕ) : Type 0 where
 unfoldable pub headerFor : List ℕ → ℕ → List ℕ
 headerFor m size = take 16 m ++ (1 ∷ getD m 17 0 ∷ getD m 18 0 ∷ 0 ∷ (take 4 (drop 20 m) ++ bytesOf 4 size))
 
--- r, what is answered to a choice and the buffer after it: the buffer begins with an SA payload that reads back under every such header, and is
--- else as it was
-pub record TheReply (exchange count ah esp : ℕ) (m : List ℕ) (number : ProposalNumber) (transforms : Transforms) (buffer : List ℕ) (r : Outcome × List ℕ) : Type 0 where
+-- what `reply-reads-back`, at the end, shows of r, what is answered to a choice and the buffer after it: the buffer begins with an SA payload
+-- that reads back under every such header, and is else as it was
+pub record TheReply (exchange count ah esp : ℕ) (m : List ℕ) (number : ProposalNumber) (transforms : Transforms) (buffer : List ℕ)
+    (r : Outcome × List ℕ) : Type 0 where
   pub payload : List ℕ
   pub fits : length payload ≤ 2048
   pub answered : r .0 ≡ Written (length payload)
@@ -189,7 +190,8 @@ module _ (m payload : List ℕ) (long : 28 ≤ length m) (few : length payload �
   made-size : numberAt 4 made 24 ≡ size
   made-size =
       number-in-last 4
-      ∙ number-append 4 (take 4 (drop 20 m) ++ bytesOf 4 size) payload 4 (omega (arith, id-long, length-bytesOf 4 size, length-append (take 4 (drop 20 m)) (bytesOf 4 size)))
+      ∙ number-append 4 (take 4 (drop 20 m) ++ bytesOf 4 size) payload 4
+      (omega (arith, id-long, length-bytesOf 4 size, length-append (take 4 (drop 20 m)) (bytesOf 4 size)))
       ∙ ap (λ (k : ℕ). numberAt 4 (take 4 (drop 20 m) ++ bytesOf 4 size) k) (omega (arith, id-long))
       ∙ number-append-add 4 (take 4 (drop 20 m)) (bytesOf 4 size) 0 ∙ number-bytesOf 4 size (omega arith)
 
@@ -256,19 +258,27 @@ module _ (exchange : ℕ) (payload h : List ℕ) (a : Around exchange payload h)
     sa-is : saFrom 1 0 (h ++ payload) ≡ drop 4 payload
     sa-is = sa-in-front (h ++ payload) (byte 16 (omega arith) ∙ a .an-sa) (rw behind lies) ∙ ap (drop 4) behind
 
-    message-reads : (exchange ≡ 5 → ⊥) → 4 ≤ length payload → getD payload 0 0 ≡ 0 → getD payload 1 0 ≡ 0 → offerCode exchange (drop 4 payload) ≡ 0 → message (h ++ payload) ≡ Read exchange 1
+    message-reads : (exchange ≡ 5 → ⊥) → 4 ≤ length payload → getD payload 0 0 ≡ 0 → getD payload 1 0 ≡ 0 → offerCode exchange (drop 4 payload) ≡ 0 →
+        message (h ++ payload) ≡ Read exchange 1
     message-reads other long last reserved reads =
         let same : exchangeOf (h ++ payload) ≡ exchange = byte 18 (omega arith) ∙ a .same-exchange in
-        let body : offerCode (exchangeOf (h ++ payload)) (drop 4 (drop 28 (h ++ payload))) ≡ 0 = ap (λ (x : ℕ). offerCode x (drop 4 (drop 28 (h ++ payload)))) same ∙ (rw behind reads) in
-        one-sa-reads (h ++ payload) (a .lawful) (byte 16 (omega arith) ∙ a .an-sa) (byte 19 (omega arith) ∙ a .plain) (λ e. other (sym same ∙ e)) (rw behind long) (rw behind last) (rw behind reserved) (rw behind lies) body
+        let body : offerCode (exchangeOf (h ++ payload)) (drop 4 (drop 28 (h ++ payload))) ≡ 0 =
+        ap (λ (x : ℕ). offerCode x (drop 4 (drop 28 (h ++ payload)))) same ∙ (rw behind reads) in
+        one-sa-reads (h ++ payload) (a .lawful) (byte 16 (omega arith) ∙ a .an-sa) (byte 19 (omega arith) ∙ a .plain) (λ e. other (sym same ∙ e))
+        (rw behind long) (rw behind last) (rw behind reserved) (rw behind lies) body
         ∙ ap (λ (x : ℕ). Read x 1) same
 
-module _ (exchange count : ℕ) (book m : List ℕ) (number : ProposalNumber) (line : LineNumber) (transforms : Transforms) (c : Chose exchange count book m number line transforms) (ah esp : ℕ) (small-ah : ah < 4294967296) (small-esp : esp < 4294967296) (low : spisLow ah esp transforms (setNumbered number (saFrom 32 0 m)) ≡ false) where
+module _ (exchange count : ℕ) (book m : List ℕ) (number : ProposalNumber) (line : LineNumber) (transforms : Transforms)
+    (c : Chose exchange count book m number line transforms) (ah esp : ℕ) (small-ah : ah < 4294967296) (small-esp : esp < 4294967296)
+    (low : spisLow ah esp transforms (setNumbered number (saFrom 32 0 m)) ≡ false) where
   abbrev s : List ℕ
   s = set (c .k) (saFrom count 0 m)
 
+  abbrev set-reply : List ℕ
+  set-reply = setReply ah esp transforms (setNumbered number (saFrom 32 0 m))
+
   abbrev payload : List ℕ
-  payload = saOf 0 (setReply ah esp transforms (setNumbered number (saFrom 32 0 m)))
+  payload = saOf 0 set-reply
 
   repeats : Repeats exchange ah esp s (λ j. chosenIn exchange (c .i) book (proposal j s)) (drop 4 payload)
   repeats = choice-repeats exchange count book m number line transforms c ah esp small-ah small-esp low 0
@@ -277,7 +287,7 @@ module _ (exchange count : ℕ) (book m : List ℕ) (number : ProposalNumber) (l
   short = choice-short exchange count book m number line transforms c ah esp small-ah small-esp low 0
 
   lies : numberAt 2 payload 2 ≡ length payload
-  lies = sa-lies 0 (setReply ah esp transforms (setNumbered number (saFrom 32 0 m))) (omega (arith, short))
+  lies = sa-lies 0 set-reply (omega (arith, short))
 
   repeated : (j : ℕ) → j < proposalCount s → Repeated ah esp number (proposal j s) (chosenNumber transforms j) (proposal j (set 0 (drop 4 payload)))
   unfolding numberOf
@@ -301,8 +311,8 @@ module _ (exchange count : ℕ) (book m : List ℕ) (number : ProposalNumber) (l
   reads-back h a =
       let sa = sa-is exchange payload h a lies in
       let known = c .lawful .lawful 0 (c .lawful .some) .known in
-      let begins = sa-begins 0 (setReply ah esp transforms (setNumbered number (saFrom 32 0 m))) in
-      let long : 4 ≤ length payload = omega (arith, sa-long 0 (setReply ah esp transforms (setNumbered number (saFrom 32 0 m)))) in
+      let begins = sa-begins 0 set-reply in
+      let long : 4 ≤ length payload = omega (arith, sa-long 0 set-reply) in
       record {
         readable = message-reads exchange payload h a lies (not-five (known-of exchange _ known)) long (begins .0) (begins .1) (repeats .readable);
         one-set = rw sa (repeats .alone);

@@ -47,7 +47,8 @@ pub record SideBySide (s : List ℕ) : Type 0 where
   pub whole : flatten (proposals s) ≡ s
   pub own-length : (i : ℕ) → i < proposalCount s → numberAt 2 (proposal i s) 2 ≡ length (proposal i s)
   pub never-fall : (i j : ℕ) → i ≤ j → j < proposalCount s → number (proposal i s) ≤ number (proposal j s)
-  pub between : (i j k : ℕ) → i ≤ j → j ≤ k → k < proposalCount s → number (proposal i s) ≡ number (proposal k s) → number (proposal j s) ≡ number (proposal i s)
+  pub between : (i j k : ℕ) → i ≤ j → j ≤ k → k < proposalCount s → number (proposal i s) ≡ number (proposal k s) →
+      number (proposal j s) ≡ number (proposal i s)
 
 -- s is a set among the proposals ps: it has a proposal, is filled by those it has, all of one number, and has all of that number
 pub record SetAmong (ps : List (List ℕ)) (s : List ℕ) : Type 0 where
@@ -101,7 +102,8 @@ module _ (first rest : List ℕ → List ℕ) where
 
 -- ---- proposals
 
-items-listed : {exchange least : ℕ} {ps : List (List ℕ)} → Rising exchange least ps → (left : ℕ) → length ps ≤ left → handed firstItem afterItem left (flatten ps) ≡ ps
+items-listed : {exchange least : ℕ} {ps : List (List ℕ)} → Rising exchange least ps → (left : ℕ) → length ps ≤ left →
+    handed firstItem afterItem left (flatten ps) ≡ ps
 unfolding flatten
 items-listed end left h = handed-none firstItem afterItem left
 items-listed (on i o r) zero h = absurd (omega arith)
@@ -113,7 +115,8 @@ proposals-of : {exchange least : ℕ} {ps : List (List ℕ)} → Rising exchange
 unfolding proposals proposal proposalCount
 proposals-of r few = items-listed r 16 few
 
-rising-at : {exchange least : ℕ} {ps : List (List ℕ)} → Rising exchange least ps → (i j : ℕ) → i ≤ j → j < length ps → getD (getD ps i []) 4 0 ≤ getD (getD ps j []) 4 0
+rising-at : {exchange least : ℕ} {ps : List (List ℕ)} → Rising exchange least ps → (i j : ℕ) → i ≤ j → j < length ps →
+    getD (getD ps i []) 4 0 ≤ getD (getD ps j []) 4 0
 rising-at end i j h g = absurd (omega arith)
 rising-at (on i o r) zero zero h g = omega arith
 rising-at (on i o r) zero (suc k) h g = least-at r k (omega arith)
@@ -131,7 +134,12 @@ module _ (s : List ℕ) (ps : List (List ℕ)) (e : proposals s ≡ ps) where
 
   side-by-side : {exchange least : ℕ} → flatten ps ≡ s → Rising exchange least ps → SideBySide s
   unfolding proposalNumber
-  side-by-side w r = record { whole = ap flatten e ∙ w; own-length = lengths; never-fall = falls; between = λ i j k a b c same. omega (arith, falls i j a (omega arith), falls j k b c) }
+  side-by-side w r = record {
+    whole = ap flatten e ∙ w;
+    own-length = lengths;
+    never-fall = falls;
+    between = λ i j k a b c same. omega (arith, falls i j a (omega arith), falls j k b c);
+  }
     where
       lengths : (i : ℕ) → i < proposalCount s → numberAt 2 (proposal i s) 2 ≡ length (proposal i s)
       lengths i h = rw (place i h) (item-at r i (omega (arith, count)) .lies)
@@ -141,7 +149,8 @@ module _ (s : List ℕ) (ps : List (List ℕ)) (e : proposals s ≡ ps) where
 
 -- ---- sets
 
-sets-listed : {exchange least : ℕ} {s : List ℕ} {gs : List (List (List ℕ))} → Sets exchange least s gs → (left : ℕ) → length gs ≤ left → handed firstSet afterSet left s ≡ map flatten gs
+sets-listed : {exchange least : ℕ} {s : List ℕ} {gs : List (List (List ℕ))} → Sets exchange least s gs → (left : ℕ) → length gs ≤ left →
+    handed firstSet afterSet left s ≡ map flatten gs
 sets-listed sets-end left h = handed-none firstSet afterSet left
 sets-listed (sets-on z f r m c g) zero h = absurd (omega arith)
 sets-listed (sets-on {s = s} {gs = gs} z f r m c g) (suc left) h =
@@ -173,7 +182,8 @@ group-at sets-end k h = absurd (omega arith)
 group-at (sets-on z f r m c g) zero h = record { some = omega arith; read = proposals-of r c; same = same-on refl m }
 group-at (sets-on z f r m c g) (suc k) h = group-at g k (omega arith)
 
-first-at : {exchange least : ℕ} {s : List ℕ} {gs : List (List (List ℕ))} → Sets exchange least s gs → (k : ℕ) → k < length gs → least ≤ getD (getD (getD gs k []) 0 []) 4 0
+first-at : {exchange least : ℕ} {s : List ℕ} {gs : List (List (List ℕ))} → Sets exchange least s gs → (k : ℕ) → k < length gs →
+    least ≤ getD (getD (getD gs k []) 0 []) 4 0
 first-at sets-end k h = absurd (omega arith)
 first-at (sets-on z f r m c g) zero h = least-at r 0 (omega arith)
 first-at (sets-on z f r m c g) (suc k) h = omega (arith, least-at r 0 (omega arith), first-at g k (omega arith))
@@ -191,7 +201,8 @@ module _ (n : ℕ) where
   numbered-append : (ps qs : List (List ℕ)) → numbered n (ps ++ qs) ≡ numbered n ps ++ numbered n qs
   unfolding numbered
   numbered-append [] qs = refl
-  numbered-append (p ∷ ps) qs = by-test (eqb (number p) n) (λ e. rw e (ap (λ (l : List (List ℕ)). p ∷ l) (numbered-append ps qs))) (λ e. rw e (numbered-append ps qs))
+  numbered-append (p ∷ ps) qs =
+      by-test (eqb (number p) n) (λ e. rw e (ap (λ (l : List (List ℕ)). p ∷ l) (numbered-append ps qs))) (λ e. rw e (numbered-append ps qs))
 
   numbered-same : {ps : List (List ℕ)} → Same n ps → numbered n ps ≡ ps
   unfolding numbered proposalNumber
