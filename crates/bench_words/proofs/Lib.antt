@@ -1,0 +1,4 @@
+mod HexLaws
+mod NumberLaws
+mod SayLaws
+mod WordLaws

@@ -1,0 +1,21 @@
+use borrow.Author.Needs.{needs}
+use Rattle.bench_words.proofs.HexLaws.{part-none, part-wrong, part-both}
+use Rattle.bench_words.proofs.hex.decode_two.Statement.{statement}
+use Rattle.bench_words.proofs.hex.decode_two.Tie as tie
+
+pub decode-two-spec : {M : Type 1} → statement M
+decode-two-spec =
+    tie.close
+    (tie.spec
+    (λ c κs. search needs)
+    (λ c. search needs)
+    (λ c. search needs)
+    (λ c. search needs)
+    (λ c. search (part-none, part-wrong, part-both))
+    (λ c κs. search needs)
+    (λ c. search needs)
+    (λ c. search needs)
+    (λ c. search needs)
+    (λ c. search (part-none, part-wrong, part-both))
+    (λ c. search needs)
+    (λ c. search (part-none, part-wrong, part-both)))
