@@ -8,6 +8,7 @@ pub mod OneAnswerPolicy
 pub mod OneAnswerQuick
 pub mod OneAnswerSequence
 pub mod OneAnswerExports
+pub mod OneAnswerBench
 pub mod Messages
 pub mod Marked
 pub mod Port4500
