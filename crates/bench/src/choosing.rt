@@ -1,13 +1,12 @@
 // `book BYTES` and `choose BOOK BYTES`: what a policy book holds, and what it chooses of a message.
-use crate::hex;
-use crate::hex::Decoded;
-use crate::hex::Parted;
-use crate::say;
-use crate::say::append;
-use crate::words;
+use bench_words::hex;
+use bench_words::hex::Decoded;
+use bench_words::hex::Parted;
+use bench_words::say;
+use bench_words::say::append;
+use bench_words::words;
 use policy_book::Book;
 use policy_choice::Choice;
-use policy_choice::Transforms;
 use wire_read::after;
 use wire_read::front;
 
@@ -49,17 +48,7 @@ fn chosen(choice: Choice, out: &mut [u8], said: usize) -> usize {
             let said = append(out, said, b"chosen");
             let said = say::number(out, said, set.0 as u64);
             let said = say::number(out, said, line.0 as u64);
-            numbers(transforms, out, said)
-        }
-    }
-}
-
-pub(crate) fn numbers(transforms: Transforms, out: &mut [u8], said: usize) -> usize {
-    match transforms {
-        Transforms::One(t) => say::number(out, said, t.0 as u64),
-        Transforms::Two(t, u) => {
-            let said = say::number(out, said, t.0 as u64);
-            say::number(out, said, u.0 as u64)
+            say::transforms(out, said, transforms)
         }
     }
 }

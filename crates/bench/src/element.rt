@@ -1,9 +1,9 @@
 // `der BYTES`: whether the bytes are one DER element, and whether it is a name.
-use crate::hex;
-use crate::hex::Decoded;
-use crate::say;
-use crate::say::append;
-use crate::words;
+use bench_words::hex;
+use bench_words::hex::Decoded;
+use bench_words::say;
+use bench_words::say::append;
+use bench_words::words;
 use wire_read::front;
 
 pub(crate) fn answer(line: &[u8], bytes: &mut [u8], out: &mut [u8], said: usize) -> usize {

@@ -1,9 +1,9 @@
 // `identity EXCHANGE BYTES`: whether the body of an identification payload is lawful in exchange 2 or 32.
-use crate::hex;
-use crate::hex::Decoded;
-use crate::say;
-use crate::say::append;
-use crate::words;
+use bench_words::hex;
+use bench_words::hex::Decoded;
+use bench_words::say;
+use bench_words::say::append;
+use bench_words::words;
 use identity::identity_code;
 use wire_read::equal;
 use wire_read::front;

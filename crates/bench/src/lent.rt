@@ -1,12 +1,12 @@
 // The lines on the record that is lent alone: `lent new`, `lent loss` and `lent NUMBER yes|no`.
 use crate::State;
-use crate::integrity;
-use crate::integrity::Integrity;
-use crate::number;
-use crate::number::Number;
-use crate::say;
-use crate::say::append;
-use crate::words;
+use bench_words::integrity;
+use bench_words::integrity::Integrity;
+use bench_words::number;
+use bench_words::number::Number;
+use bench_words::say;
+use bench_words::say::append;
+use bench_words::words;
 use sequence_record::loss_line;
 use sequence_record::new_receive;
 use sequence_record::step_lent;

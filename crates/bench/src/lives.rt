@@ -1,14 +1,14 @@
 // The lines on the table of SA entries: `add`, `remove`, `send` and `loss` with DST PROTOCOL SPI, and
 // `packet DST PROTOCOL yes|no BYTES`. Every word is read before the table is touched, so a bad line changes nothing.
-use crate::hex;
-use crate::hex::Decoded;
-use crate::integrity;
-use crate::integrity::Integrity;
-use crate::number;
-use crate::number::Number;
-use crate::say;
-use crate::say::append;
-use crate::words;
+use bench_words::hex;
+use bench_words::hex::Decoded;
+use bench_words::integrity;
+use bench_words::integrity::Integrity;
+use bench_words::number;
+use bench_words::number::Number;
+use bench_words::say;
+use bench_words::say::append;
+use bench_words::words;
 use sequence_table::table;
 use sequence_table::table::Counted;
 use sequence_table::table::Key;

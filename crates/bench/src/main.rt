@@ -1,30 +1,22 @@
 // Reads lines from standard input and writes one line of answer to standard output for each, in order. What the lines are
-// stands in verbs.rt. Input of any length goes through four buffers that main makes once and lends to everything below, as
-// it does the table of SA entries and the kept buffers of the quick mode ends.
+// stands in verbs.rt and, for the quick mode ends, in bench_ends. Input of any length goes through four buffers that main
+// makes once and lends to everything below, as it does the table of SA entries and the kept buffers of the ends.
 mod choosing;
 mod element;
-mod hex;
 mod identification;
-mod integrity;
 mod lent;
 mod lives;
-mod making;
-mod number;
 mod port;
 mod reading;
 mod replying;
-mod say;
-mod seats;
-mod showing;
-mod stepping;
 mod verbs;
-mod words;
 
+use bench_ends::Kept;
+use bench_ends::Seats;
+use bench_words::say::append;
+use bench_words::words::find;
 use libc::STDIN_FILENO;
 use libc::STDOUT_FILENO;
-use say::append;
-use seats::Kept;
-use seats::Seats;
 use sequence_record::Receive;
 use sequence_record::new_receive;
 use sequence_table::table::ROOMS;
@@ -37,13 +29,23 @@ type Large = [u8; 65536];
 
 type Bytes = [u8; 32768];
 
-// What goes from line to line: how far the line and the output are filled, whether to read on, the record of the lines
-// that begin with `lent`, and the quick mode ends.
+// A line is at most so many bytes long, without its line end.
+const LONGEST: usize = 65535;
+
+// What goes from line to line, but for the quick mode ends: how far the input is taken and filled, how far the line and
+// the output are filled, whether the line is whole, whether to read on, and the record of the lines that begin with `lent`.
 struct State {
+    taken: usize,
+    filled: usize,
     line: usize,
+    whole: bool,
     said: usize,
     going: bool,
     lent: Receive,
+}
+
+struct Held {
+    state: State,
     ends: Seats,
 }
 
@@ -70,7 +72,7 @@ fn main() {
     );
 }
 
-// Answers all of the input. What is left of a line when the input ends is the last line.
+// Answers all of the input.
 fn run(
     input: &mut Large,
     line: &mut Large,
@@ -80,21 +82,67 @@ fn run(
     bytes: &mut Bytes,
     out: &mut Large,
 ) {
-    let mut state = State {
+    let state = State {
+        taken: 0,
+        filled: 0,
         line: 0,
+        whole: false,
         said: 0,
         going: true,
         lent: new_receive(),
-        ends: seats::absent(),
     };
+    let ends = bench_ends::absent();
+    let mut held = Held { state, ends };
     // A proved loop has to end: no run uses this number up.
     let mut turns = u64::MAX;
-    while turns > 0 && state.going {
-        state = read_once(input, line, lives, sent, got, bytes, out, state);
+    while turns > 0 && held.state.going {
+        held = turn(input, line, lives, sent, got, bytes, out, held);
         turns -= 1;
     }
-    let last = end_line(line, lives, sent, got, bytes, out, state);
-    flush(out, last);
+    let state = held.state;
+    flush(out, state);
+}
+
+// Takes a piece of the input, and answers the line that it makes whole: a line goes to the ends first, and to the other
+// verbs where it is none of theirs. Nothing below holds the ends.
+fn turn(
+    input: &mut Large,
+    line: &mut Large,
+    lives: &mut Table,
+    sent: &mut Kept,
+    got: &mut Kept,
+    bytes: &mut Bytes,
+    out: &mut Large,
+    held: Held,
+) -> Held {
+    let before = held.state;
+    let ends = held.ends;
+    let mut state = next_piece(input, line, out, before);
+    let asked = front(line, asked_size(state));
+    let answered = bench_ends::answer(asked, sent, got, bytes, out, state.said, ends);
+    state.said = answered.said;
+    let state = verbs::answer(line, answered.known, lives, bytes, out, state);
+    let ends = answered.ends;
+    Held { state, ends }
+}
+
+// Takes the next piece of the input up to a line end, and reads where all that was read is taken. What is left of a line
+// when the input ends is the last line. What was said is written out before each read.
+fn next_piece(input: &mut Large, line: &mut Large, out: &[u8], state: State) -> State {
+    if state.taken < state.filled {
+        return take(front(input, state.filled), line, state);
+    }
+    let mut state = flush(out, state);
+    if !state.going {
+        return state;
+    }
+    state.taken = 0;
+    state.filled = fill(input);
+    if state.filled == 0 {
+        state.whole = true;
+        state.going = false;
+    }
+    state
 }
 
 // Reads once: how many bytes came. A read that fails counts as the end of the input.
@@ -103,93 +151,21 @@ fn fill(input: &mut [u8]) -> usize {
     io::count(got, input)
 }
 
-// Reads once and answers what came.
-fn read_once(
-    input: &mut Large,
-    line: &mut Large,
-    lives: &mut Table,
-    sent: &mut Kept,
-    got: &mut Kept,
-    bytes: &mut Bytes,
-    out: &mut Large,
-    mut state: State,
-) -> State {
-    let n = fill(input);
-    if n == 0 {
-        state.going = false;
-        return state;
-    }
-    take(front(input, n), line, lives, sent, got, bytes, out, state)
+// Adds to the line what the part has of it from the place that is reached on.
+fn take(part: &[u8], line: &mut Large, mut state: State) -> State {
+    let end = find(part, state.taken, b'\n');
+    state.line = append(line, state.line, after(front(part, end), state.taken));
+    state.whole = end < part.len();
+    state.taken = end + 1;
+    state
 }
 
-// Takes a part of the input, line by line, and writes out what was said.
-fn take(
-    part: &[u8],
-    line: &mut Large,
-    lives: &mut Table,
-    sent: &mut Kept,
-    got: &mut Kept,
-    bytes: &mut Bytes,
-    out: &mut Large,
-    mut state: State,
-) -> State {
-    let mut at = 0;
-    while at < part.len() && state.going {
-        let end = words::find(part, at, b'\n');
-        let piece = after(front(part, end), at);
-        at = end + 1;
-        state = add(
-            piece,
-            end < part.len(),
-            line,
-            lives,
-            sent,
-            got,
-            bytes,
-            out,
-            state,
-        );
-    }
-    flush(out, state)
-}
-
-// Adds a piece to the line that is kept, and answers the line where the piece ends it.
-fn add(
-    piece: &[u8],
-    ends: bool,
-    line: &mut Large,
-    lives: &mut Table,
-    sent: &mut Kept,
-    got: &mut Kept,
-    bytes: &mut Bytes,
-    out: &mut Large,
-    mut state: State,
-) -> State {
-    state.line = append(line, state.line, piece);
-    if ends {
-        end_line(line, lives, sent, got, bytes, out, state)
+// How much of the line there is for an end to answer: nothing of one that is not whole, or too long.
+fn asked_size(state: State) -> usize {
+    if state.whole & (state.line <= LONGEST) {
+        state.line
     } else {
-        state
-    }
-}
-
-// Answers the line that is kept and begins the next one. The output is written when it is more than half full, so half of
-// it is room for an answer.
-fn end_line(
-    line: &[u8],
-    lives: &mut Table,
-    sent: &mut Kept,
-    got: &mut Kept,
-    bytes: &mut Bytes,
-    out: &mut Large,
-    state: State,
-) -> State {
-    let mut state = verbs::answer(front(line, state.line), lives, sent, got, bytes, out, state);
-    state.line = 0;
-    if out.len() / 2 < state.said {
-        flush(out, state)
-    } else {
-        state
+        0
     }
 }
 

@@ -1,9 +1,9 @@
 // `read BYTES`: what a message reads as.
-use crate::hex;
-use crate::hex::Decoded;
-use crate::say;
-use crate::say::append;
-use crate::words;
+use bench_words::hex;
+use bench_words::hex::Decoded;
+use bench_words::say;
+use bench_words::say::append;
+use bench_words::words;
 use message_chain::Message;
 use message_chain::Payload;
 use wire_read::front;

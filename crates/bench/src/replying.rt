@@ -1,11 +1,11 @@
 // `reply BOOK AH ESP ROOM BYTES`: the reply that a book makes to a message, with own SPIs, in a lent buffer of ROOM bytes.
-use crate::hex;
-use crate::hex::Parted;
-use crate::number;
-use crate::number::Number;
-use crate::say;
-use crate::say::append;
-use crate::words;
+use bench_words::hex;
+use bench_words::hex::Parted;
+use bench_words::number;
+use bench_words::number::Number;
+use bench_words::say;
+use bench_words::say::append;
+use bench_words::words;
 use policy_reply::Outcome;
 use wire_read::after;
 use wire_read::front;

@@ -1,7 +1,6 @@
 -- The output keeps its length, and k counts up to count.
 use Prim.Native.Nat.{_≤_, _-_}
-use mathlib.Core.Path.{_≡_, refl, _∙_}
-use native.Mathlib.Omega.{arith}
+use mathlib.Core.Path.{_≡_}
 use borrow.Author.Needs.{needs}
 use lib.ListN.{length}
 use Rattle.bench.proofs.reading.payloads.Statement.{statement}
