@@ -4,12 +4,12 @@
 -- alternatives.
 use Prim.Native.Nat.{ℕ, _+_, _≤_, _<_}
 use mathlib.Core.Path.{_≡_, refl, sym, ap, _∙_}
-use mathlib.Core.List.{List}
 use mathlib.Core.Bool.{false}
 use native.Mathlib.Omega.{arith}
 use lib.ListN.{length, getD}
 use lib.Dec.{eqb}
 use borrow.Author.Tests.{ne-eqb}
+use Rattle.wire_read.specs.Wire.{Bytes}
 use Rattle.wire_read.specs.Tests.{if_then_else_}
 use Rattle.wire_read.specs.Answer.{Answer}
 use Rattle.wire_read.proofs.Tests.{never, clash}
@@ -35,7 +35,7 @@ use Rattle.policy_suits.proofs.Laws.{lowest-is, suits-says, says-suits}
 use Rattle.policy_choice.proofs.Laws.{NoLine, Choosing, fourteen, chose, choosing}
 
 -- a lawful book, and a message that reads and has an SA payload
-pub record Offer (book m : List ℕ) : Type 0 where
+pub record Offer (book m : Bytes) : Type 0 where
   pub main : ℕ
   pub quick : ℕ
   pub exchange : ℕ
@@ -45,15 +45,15 @@ pub record Offer (book m : List ℕ) : Type 0 where
   pub offered : length (saFrom count 0 m) ≡ 0 → ⊥
 
 -- no offered set suits any policy line
-abbrev pub NoneSuits : (exchange : ℕ) (book body : List ℕ) → Type 0
+abbrev pub NoneSuits : (exchange : ℕ) (book body : Bytes) → Type 0
 NoneSuits exchange book body = (k i : ℕ) → k < setCount body → i < lineCount exchange book → Suits exchange i book (set k body) → ⊥
 
 -- the lowest transform of proposal p is the first that suits line i
-abbrev pub LowestFirst : (exchange i : ℕ) (book p : List ℕ) → Type 0
+abbrev pub LowestFirst : (exchange i : ℕ) (book p : Bytes) → Type 0
 LowestFirst exchange i book p = First (transformSuits exchange i book p) (transformCount p) 0 (lowest exchange i book p)
 
 -- a choice: set k and line i, counted from 0
-pub record Best (exchange : ℕ) (book body : List ℕ) (r : Choice) : Type 0 where
+pub record Best (exchange : ℕ) (book body : Bytes) (r : Choice) : Type 0 where
   pub k : ℕ
   pub i : ℕ
   pub a-set : k < setCount body
@@ -66,10 +66,10 @@ pub record Best (exchange : ℕ) (book body : List ℕ) (r : Choice) : Type 0 wh
 
 -- ---- proofs
 
-no-suit : (exchange i : ℕ) (book s : List ℕ) → setSuits exchange i book s ≡ false → Suits exchange i book s → ⊥
+no-suit : (exchange i : ℕ) (book s : Bytes) → setSuits exchange i book s ≡ false → Suits exchange i book s → ⊥
 no-suit exchange i book s h u = clash (sym h ∙ says-suits exchange i book s u)
 
-module _ (exchange : ℕ) (book body : List ℕ) where
+module _ (exchange : ℕ) (book body : Bytes) where
   means-none : {n k : ℕ} {r : Choice} → Choosing exchange book body n k r → r ≡ Refused 14 → (j : ℕ) → k ≤ j → j < k + n → NoLine exchange book (set j body)
   unfolding chosen
   means-none (fourteen f) e = f
@@ -94,9 +94,9 @@ module _ (exchange : ℕ) (book body : List ℕ) where
     answered = refl;
   }
 
-module _ (book m : List ℕ) (o : Offer book m) where
+module _ (book m : Bytes) (o : Offer book m) where
   -- the body of the SA payload
-  abbrev body : List ℕ
+  abbrev body : Bytes
   body = saFrom (o .count) 0 m
 
   pub choice-is : choice book m ≡ chooseFrom (o .exchange) book body

@@ -3,8 +3,9 @@
 use Prim.Native.Nat.{ℕ}
 use mathlib.Core.Path.{_≡_, ap, _∙_}
 use mathlib.Core.Logic.{_⊎_}
-use mathlib.Core.List.{List, [], _∷_}
+use mathlib.Core.List.{[], _∷_}
 use lib.ListN.{length}
+use Rattle.wire_read.specs.Wire.{Bytes}
 use Rattle.quick_write.specs.Messages.{nonceOf}
 use Rattle.quick_shape.specs.Shapes.{nonce}
 use Rattle.quick_end.specs.declared.Role.the-variants.{Initiator, Responder}
@@ -50,7 +51,7 @@ module _ {w : World} (fresh : Fresh w) where
   begin-writes b = (liveness.begin-answers fresh b, liveness.begin-writes fresh b)
 
   -- at the responder every begin is refused
-  pub begin-at-responder : {u : World} → Run w u → (id : ℕ) (first second output : List ℕ) →
+  pub begin-at-responder : {u : World} → Run w u → (id : ℕ) (first second output : Bytes) →
       (number : ℕ) × (called (u .responder) (begin id first second output) .step .answer ≡ Refused number)
   begin-at-responder {u} k id first second output = begin-shut (u .responder) id first second output (always fresh k .pair .is-second)
 

@@ -1,10 +1,11 @@
 -- Messages of the marked examples, as bytes.
 use Prim.Native.Nat.{ℕ}
-use mathlib.Core.List.{List, [], _∷_}
+use mathlib.Core.List.{[], _∷_}
+use Rattle.wire_read.specs.Wire.{Bytes}
 
 -- document 01: "message 80 bytes: both cookies nonzero, exchange 2, flag 0, one proposal 1, transform 1, attributes `80010081 80020014
 -- 8003000A 80140002 800B0001 800C0E10`"
-unfoldable pub example : List ℕ
+unfoldable pub example : Bytes
 example =
     -- cookies
     0x01 ∷ 0x01 ∷ 0x01 ∷ 0x01 ∷ 0x01 ∷ 0x01 ∷ 0x01 ∷ 0x01 ∷ 0x02 ∷ 0x02 ∷ 0x02 ∷ 0x02 ∷ 0x02 ∷ 0x02 ∷ 0x02 ∷ 0x02
@@ -21,7 +22,7 @@ example =
     ∷ 0x80 ∷ 0x14 ∷ 0x00 ∷ 0x02 ∷ 0x80 ∷ 0x0b ∷ 0x00 ∷ 0x01 ∷ 0x80 ∷ 0x0c ∷ 0x0e ∷ 0x10 ∷ []
 
 -- a quick mode message whose SA payload has AH and ESP in set 1, each with one transform: mode 1, one life of 3,600 seconds
-unfoldable pub both : List ℕ
+unfoldable pub both : Bytes
 both =
     -- cookies
     0x01 ∷ 0x01 ∷ 0x01 ∷ 0x01 ∷ 0x01 ∷ 0x01 ∷ 0x01 ∷ 0x01 ∷ 0x02 ∷ 0x02 ∷ 0x02 ∷ 0x02 ∷ 0x02 ∷ 0x02 ∷ 0x02 ∷ 0x02
@@ -41,9 +42,9 @@ both =
     ∷ 0x80 ∷ 0x04 ∷ 0x00 ∷ 0x01 ∷ 0x80 ∷ 0x01 ∷ 0x00 ∷ 0x01 ∷ 0x80 ∷ 0x02 ∷ 0x0e ∷ 0x10 ∷ []
 
 -- document 01: "Book `01 00000E10 00`"
-unfoldable pub mainBook : List ℕ
+unfoldable pub mainBook : Bytes
 mainBook = 0x01 ∷ 0x00 ∷ 0x00 ∷ 0x0e ∷ 0x10 ∷ 0x00 ∷ []
 
 -- one quick line of these protocols, mode 1, 3,600 seconds
-unfoldable pub quickBook : ℕ → List ℕ
+unfoldable pub quickBook : ℕ → Bytes
 quickBook protocols = 0x00 ∷ 0x01 ∷ protocols ∷ 0x01 ∷ 0x00 ∷ 0x00 ∷ 0x0e ∷ 0x10 ∷ []

@@ -5,6 +5,7 @@ use mathlib.Core.Path.{_≡_, sym, ap}
 use mathlib.Core.List.{List}
 use native.Mathlib.Omega.{arith}
 use lib.ListN.{length}
+use Rattle.wire_read.specs.Wire.{Bytes}
 use Rattle.message_header.specs.Header.{firstPayload}
 use Rattle.message_chain.specs.Message.{payloads, nth, reading, walk, payloadAt, messageAnswer}
 use Rattle.message_chain.specs.declared.Payload.{Payload}
@@ -15,7 +16,7 @@ use Rattle.promises.specs.SequenceAnswers.{parts}
 use Rattle.message_chain.proofs.Laws.{walk-start, reading-found}
 
 -- what is promised of the payloads ps that were found in m
-pub record InLine (m : List ℕ) (ps : List Payload) : Type 0 where
+pub record InLine (m : Bytes) (ps : List Payload) : Type 0 where
   pub handed : (j : ℕ) → j < length ps → payloadAt j m ≡ nth ps j
   pub begins : nth ps 0 .start ≡ 28
   pub follows : (j : ℕ) → suc j < length ps → nth ps (suc j) .start ≡ nth ps j .start + nth ps j .length
@@ -23,7 +24,7 @@ pub record InLine (m : List ℕ) (ps : List Payload) : Type 0 where
 
 -- ---- proofs
 
-pub in-line : (m : List ℕ) (ps : List Payload) → reading m ≡ payloads ps → InLine m ps
+pub in-line : (m : Bytes) (ps : List Payload) → reading m ≡ payloads ps → InLine m ps
 unfolding payloadAt walk
 in-line m ps e =
     let (f, some) = reading-found m ps e in

@@ -1,11 +1,11 @@
 -- Port 4500: an answer's number and values are its own, and what is handed on lies where the answer says.
 use Prim.Native.Nat.{ℕ, _-_}
 use mathlib.Core.Path.{_≡_, refl, sym, ap, _∙_}
-use mathlib.Core.List.{List, [], _∷_, _++_}
+use mathlib.Core.List.{[], _∷_, _++_}
 use mathlib.Core.Bool.{Bool, true, false}
 use lib.ListN.{length, getD, take, drop, take-append-drop, length-drop}
 use lib.Dec.{ltb, eqb}
-use Rattle.wire_read.specs.Wire.{equal}
+use Rattle.wire_read.specs.Wire.{Bytes, equal}
 use Rattle.wire_read.specs.Tests.{if_then_else_}
 use Rattle.wire_read.specs.Answer.{Answer}
 use Rattle.wire_read.proofs.Tests.{never}
@@ -34,13 +34,13 @@ pub answer-own : (x y : Datagram) → datagramAnswer x ≡ datagramAnswer y → 
 answer-own x y h = sym (meant-answer x) ∙ ap meant h ∙ meant-answer y
 
 -- what each answer says of the datagram
-data Says (s : List ℕ) : Datagram → Type 0 where
+data Says (s : Bytes) : Datagram → Type 0 where
   keepalive : Says s Keepalive
   short : Says s (Refused 16)
   behind : take 4 s ≡ marker → Says s (KeyExchange 4 (length s - 4))
   esp : Says s (Esp (length s))
 
-says : (s : List ℕ) → Says s (datagram s)
+says : (s : Bytes) → Says s (datagram s)
 unfolding datagram
 says s = by-tests (equal s (255 ∷ [])) (ltb (length s) 4) (equal (take 4 s) marker) refl
   where
@@ -52,12 +52,12 @@ says s = by-tests (equal s (255 ∷ [])) (ltb (length s) 4) (equal (take 4 s) ma
     by-tests false false false e = esp
 
 -- a key exchange is the marker and then what is handed on, which lies where the answer says
-pub record Handed (s : List ℕ) (start n : ℕ) (rest : List ℕ) : Type 0 where
+pub record Handed (s : Bytes) (start n : ℕ) (rest : Bytes) : Type 0 where
   pub marked : s ≡ marker ++ rest
   pub lies : rest ≡ drop start s
   pub long : length rest ≡ n
 
-pub key-exchange-handed : (s : List ℕ) (start n : ℕ) → datagram s ≡ KeyExchange start n → Handed s start n (handedOn (datagram s) s)
+pub key-exchange-handed : (s : Bytes) (start n : ℕ) → datagram s ≡ KeyExchange start n → Handed s start n (handedOn (datagram s) s)
 unfolding handedOn
 key-exchange-handed s start n = of (says s)
   where
@@ -68,14 +68,14 @@ key-exchange-handed s start n = of (says s)
         let at : 4 ≡ start = cc in
         let size : length s - 4 ≡ n = cc in
         record {
-          marked = sym (ap (λ (l : List ℕ). l ++ drop 4 s) (sym m) ∙ take-append-drop 4 s);
+          marked = sym (ap (λ (l : Bytes). l ++ drop 4 s) (sym m) ∙ take-append-drop 4 s);
           lies = ap (λ (k : ℕ). drop k s) at;
           long = length-drop 4 s ∙ size;
         }
     of esp h = never (cc)
 
 -- an ESP packet is handed on whole
-pub esp-handed : (s : List ℕ) (n : ℕ) → datagram s ≡ Esp n → (handedOn (datagram s) s ≡ s) × (length s ≡ n)
+pub esp-handed : (s : Bytes) (n : ℕ) → datagram s ≡ Esp n → (handedOn (datagram s) s ≡ s) × (length s ≡ n)
 unfolding handedOn
 esp-handed s n = of (says s)
   where

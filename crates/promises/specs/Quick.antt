@@ -2,10 +2,10 @@
 -- every message that an end writes is readable.
 use Prim.Native.Nat.{ℕ}
 use mathlib.Core.Path.{_≡_, refl, sym, ap, _∙_}
-use mathlib.Core.List.{List}
 use mathlib.Core.Bool.{Bool, not, _||_}
 use lib.ListN.{length, getD}
 use lib.Dec.{eqb}
+use Rattle.wire_read.specs.Wire.{Bytes}
 use Rattle.wire_read.specs.Tests.{if_then_else_}
 use Rattle.wire_read.specs.Answer.{Answer}
 use Rattle.wire_read.proofs.Tests.{never, by-test}
@@ -28,7 +28,7 @@ use Rattle.quick_exchange.specs.Readable.{AllReadable}
 use Rattle.quick_exchange.proofs.Moves.{by-begin, by-tick, by-delivery}
 use Rattle.quick_exchange.proofs.Written.{all-readable}
 
-module _ (end : End) (sent got output : List ℕ) where
+module _ (end : End) (sent got output : Bytes) where
   -- what a call leaves: where it is a refusal, all is as it was
   pub record Unchanged (after : After) : Type 0 where
     pub as-it-was : (number : ℕ) → after .step .answer ≡ Refused number → after ≡ refusing end sent got output number
@@ -45,13 +45,13 @@ module _ (end : End) (sent got output : List ℕ) where
   abbrev itself : Party
   itself = record { end = end; sent = sent; got = got }
 
-  pub begin-refused : (id : ℕ) (first second : List ℕ) → Unchanged (begun end id first second sent got output)
+  pub begin-refused : (id : ℕ) (first second : Bytes) → Unchanged (begun end id first second sent got output)
   begin-refused id first second = by-begin itself output Unchanged refuses id first second (λ b. sends _ _ refl)
 
   pub tick-refused : Unchanged (ticked end sent got output)
   tick-refused = by-tick itself output Unchanged refuses (λ q. quiet _ refl) (λ room w. sends _ _ refl) (λ w. quiet _ refl)
 
-  module _ (m : List ℕ) where
+  module _ (m : Bytes) where
     initiator-refused : (state : State) → Unchanged (atInitiator end m sent got output state)
     unfolding atInitiator opened
     initiator-refused Sent =

@@ -11,7 +11,7 @@ use lib.ListN.{length, getD, take, drop, length-drop, length-append, List·getD-
 use lib.Seq.{length-take-le, take-at, drop-at, take-add, drop-drop, getD-drop}
 use lib.Dec.{eqb}
 use borrow.Author.Tests.{eq-eqb, ne-eqb, le-ltb}
-use Rattle.wire_read.specs.Wire.{numberAt}
+use Rattle.wire_read.specs.Wire.{Bytes, numberAt}
 use Rattle.wire_write.specs.Put.{bytesOf}
 use Rattle.wire_read.proofs.Tests.{by-test, passed}
 use Rattle.wire_read.proofs.Laws.{number-drop, number-take, number-append, number-append-add}
@@ -50,7 +50,7 @@ chosenNumber (Two t u) (suc j) = u
 
 -- q repeats the offered proposal p, with the transform of number t, and names an own SPI. Of the transform's bytes only the first, "next", is
 -- set anew: to 0, since it is the last.
-pub record Repeated (ah esp : ℕ) (number : ProposalNumber) (p : List ℕ) (t : TransformNumber) (q : List ℕ) : Type 0 where
+pub record Repeated (ah esp : ℕ) (number : ProposalNumber) (p : Bytes) (t : TransformNumber) (q : Bytes) : Type 0 where
   pub chosen-number : proposalNumber q ≡ number
   pub same-protocol : protocol q ≡ protocol p
   pub one-transform : transformCount q ≡ 1
@@ -61,14 +61,14 @@ pub record Repeated (ah esp : ℕ) (number : ProposalNumber) (p : List ℕ) (t :
   pub own-spi : spi q ≡ ownSpi ah esp (protocol p)
 
 -- m reads, its one payload is an SA payload of one set, and that repeats the offered set s
-pub record ReadsBack (exchange ah esp : ℕ) (number : ProposalNumber) (transforms : Transforms) (s m : List ℕ) : Type 0 where
+pub record ReadsBack (exchange ah esp : ℕ) (number : ProposalNumber) (transforms : Transforms) (s m : Bytes) : Type 0 where
   pub readable : message m ≡ Read exchange 1
   pub one-set : setCount (saFrom 1 0 m) ≡ 1
   pub as-many : proposalCount (set 0 (saFrom 1 0 m)) ≡ proposalCount s
   pub each : (j : ℕ) → j < proposalCount s → Repeated ah esp number (proposal j s) (chosenNumber transforms j) (proposal j (set 0 (saFrom 1 0 m)))
 
 -- the header of a message of the offer's exchange with this payload, an SA payload, alone and not ciphered
-pub record Around (exchange : ℕ) (payload h : List ℕ) : Type 0 where
+pub record Around (exchange : ℕ) (payload h : Bytes) : Type 0 where
   pub header : length h ≡ 28
   pub lawful : headerCode (h ++ payload) ≡ 0
   pub an-sa : firstPayload h ≡ 1
@@ -76,14 +76,14 @@ pub record Around (exchange : ℕ) (payload h : List ℕ) : Type 0 where
   pub plain : flagsOf h ≡ 0
 
 -- one such header: the offer's, with an SA payload first, no flag, and the length of the reply's message
-unfoldable pub headerFor : List ℕ → ℕ → List ℕ
+unfoldable pub headerFor : Bytes → ℕ → Bytes
 headerFor m size = take 16 m ++ (1 ∷ getD m 17 0 ∷ getD m 18 0 ∷ 0 ∷ (take 4 (drop 20 m) ++ bytesOf 4 size))
 
 -- what `reply-reads-back`, at the end, shows of r, what is answered to a choice and the buffer after it: the buffer begins with an SA payload
 -- that reads back under every such header, and is else as it was
-pub record TheReply (exchange count ah esp : ℕ) (m : List ℕ) (number : ProposalNumber) (transforms : Transforms) (buffer : List ℕ)
-    (r : Outcome × List ℕ) : Type 0 where
-  pub payload : List ℕ
+pub record TheReply (exchange count ah esp : ℕ) (m : Bytes) (number : ProposalNumber) (transforms : Transforms) (buffer : Bytes)
+    (r : Outcome × Bytes) : Type 0 where
+  pub payload : Bytes
   pub fits : length payload ≤ 2048
   pub answered : r .0 ≡ Written (length payload)
   pub in-front : take (length payload) (r .1) ≡ payload
@@ -92,7 +92,7 @@ pub record TheReply (exchange count ah esp : ℕ) (m : List ℕ) (number : Propo
   pub offered : k < setCount (saFrom count 0 m)
   pub chosen-set : proposalNumber (proposal 0 (set k (saFrom count 0 m))) ≡ number
   pub a-header : Around exchange payload (headerFor m (28 + length payload))
-  pub reads-back : (h : List ℕ) → Around exchange payload h → ReadsBack exchange ah esp number transforms (set k (saFrom count 0 m)) (h ++ payload)
+  pub reads-back : (h : Bytes) → Around exchange payload h → ReadsBack exchange ah esp number transforms (set k (saFrom count 0 m)) (h ++ payload)
 
 -- ---- proofs
 
@@ -102,7 +102,7 @@ not-five ah-of e = omega arith
 not-five esp-of e = omega arith
 
 -- the numbers that the choice names are those of the transforms that it takes
-module _ (exchange i : ℕ) (book s : List ℕ) where
+module _ (exchange i : ℕ) (book s : Bytes) where
   abbrev number-in : ℕ → TransformNumber
   number-in j = numberOf (lowest exchange i book (proposal j s)) (proposal j s)
 
@@ -118,7 +118,7 @@ module _ (exchange i : ℕ) (book s : List ℕ) where
 -- ---- the offer's header around a reply
 
 -- a header with the same cookies, version, exchange and message ID, no flag, and some payload
-record Alike (m n : List ℕ) : Type 0 where
+record Alike (m n : Bytes) : Type 0 where
   cookies : take 8 n ≡ take 8 m
   cookies-too : take 8 (drop 8 n) ≡ take 8 (drop 8 m)
   some : getD n 16 0 ≡ 1
@@ -128,7 +128,7 @@ record Alike (m n : List ℕ) : Type 0 where
   id : numberAt 4 n 20 ≡ numberAt 4 m 20
   right : lengthWrong n ≡ false
 
-alike-lawful : (m n : List ℕ) → Alike m n → headerCode m ≡ 0 → headerCode n ≡ 0
+alike-lawful : (m n : Bytes) → Alike m n → headerCode m ≡ 0 → headerCode n ≡ 0
 unfolding headerCode majorWrong minorWrong exchangeRefused exchangeUnknown flagsWrong cookieZero messageIdWrong flaggedLengthWrong noPayload
 alike-lawful m n a h =
     let long = passed (lengthWrong m) 30 _ (λ z. omega arith) h in
@@ -141,17 +141,17 @@ alike-lawful m n a h =
     let id = passed (messageIdWrong m) 9 _ (λ z. omega arith) (cookie .1) in
     rw (a .right, a .cookies, a .cookies-too, a .some, a .version, a .same, a .flag, a .id, major .0, minor .0, past .0, known .0, cookie .0, id .0)
 
-module _ (m payload : List ℕ) (long : 28 ≤ length m) (few : length payload ≤ 8164) where
+module _ (m payload : Bytes) (long : 28 ≤ length m) (few : length payload ≤ 8164) where
   abbrev size : ℕ
   size = 28 + length payload
 
-  abbrev made : List ℕ
+  abbrev made : Bytes
   made = headerFor m size ++ payload
 
-  abbrev fields : List ℕ
+  abbrev fields : Bytes
   fields = 1 ∷ getD m 17 0 ∷ getD m 18 0 ∷ 0 ∷ []
 
-  abbrev last : List ℕ
+  abbrev last : Bytes
   last = (take 4 (drop 20 m) ++ bytesOf 4 size) ++ payload
 
   cookie-long : length (take 8 m) ≡ 8
@@ -166,7 +166,7 @@ module _ (m payload : List ℕ) (long : 28 ≤ length m) (few : length payload �
   made-is : made ≡ take 8 m ++ (take 8 (drop 8 m) ++ (fields ++ last))
   unfolding headerFor
   made-is =
-      append-assoc (take 16 m) _ payload ∙ ap (λ (l : List ℕ). l ++ (fields ++ last)) (take-add 8 8 m)
+      append-assoc (take 16 m) _ payload ∙ ap (λ (l : Bytes). l ++ (fields ++ last)) (take-add 8 8 m)
       ∙ append-assoc (take 8 m) (take 8 (drop 8 m)) (fields ++ last)
 
   after-cookie : drop 8 made ≡ take 8 (drop 8 m) ++ (fields ++ last)
@@ -176,10 +176,10 @@ module _ (m payload : List ℕ) (long : 28 ≤ length m) (few : length payload �
   after-cookies = sym (drop-drop 8 8 made) ∙ ap (drop 8) after-cookie ∙ drop-at (take 8 (drop 8 m)) (fields ++ last) 8 cookie-too-long
 
   field : (k : ℕ) → getD made (16 + k) 0 ≡ getD (fields ++ last) k 0
-  field k = sym (getD-drop 16 made k 0) ∙ ap (λ (l : List ℕ). getD l k 0) after-cookies
+  field k = sym (getD-drop 16 made k 0) ∙ ap (λ (l : Bytes). getD l k 0) after-cookies
 
   number-in-last : (k : ℕ) → numberAt 4 made (16 + (4 + k)) ≡ numberAt 4 last k
-  number-in-last k = sym (number-drop 4 16 made (4 + k)) ∙ ap (λ (l : List ℕ). numberAt 4 l (4 + k)) after-cookies ∙ number-append-add 4 fields last k
+  number-in-last k = sym (number-drop 4 16 made (4 + k)) ∙ ap (λ (l : Bytes). numberAt 4 l (4 + k)) after-cookies ∙ number-append-add 4 fields last k
 
   made-id : numberAt 4 made 20 ≡ numberAt 4 m 20
   made-id =
@@ -240,14 +240,14 @@ module _ (m payload : List ℕ) (long : 28 ≤ length m) (few : length payload �
         plain = in-header 19 (omega arith) ∙ field 3;
       }
 
-readable-long : (m : List ℕ) (exchange count : ℕ) → message m ≡ Read exchange count → 28 ≤ length m
+readable-long : (m : Bytes) (exchange count : ℕ) → message m ≡ Read exchange count → 28 ≤ length m
 readable-long m exchange count readable =
     let r = read-as m exchange count readable in
     headers.header-long m (reading-header m (r .found) (r .is))
 
 -- ---- the message around a payload, whose body reads
 
-module _ (exchange : ℕ) (payload h : List ℕ) (a : Around exchange payload h) where
+module _ (exchange : ℕ) (payload h : Bytes) (a : Around exchange payload h) where
   behind : drop 28 (h ++ payload) ≡ payload
   behind = drop-at h payload 28 (a .header)
 
@@ -268,16 +268,16 @@ module _ (exchange : ℕ) (payload h : List ℕ) (a : Around exchange payload h)
         (rw behind long) (rw behind last) (rw behind reserved) (rw behind lies) body
         ∙ ap (λ (x : ℕ). Read x 1) same
 
-module _ (exchange count : ℕ) (book m : List ℕ) (number : ProposalNumber) (line : LineNumber) (transforms : Transforms)
+module _ (exchange count : ℕ) (book m : Bytes) (number : ProposalNumber) (line : LineNumber) (transforms : Transforms)
     (c : Chose exchange count book m number line transforms) (ah esp : ℕ) (small-ah : ah < 4294967296) (small-esp : esp < 4294967296)
     (low : spisLow ah esp transforms (setNumbered number (saFrom 32 0 m)) ≡ false) where
-  abbrev s : List ℕ
+  abbrev s : Bytes
   s = set (c .k) (saFrom count 0 m)
 
-  abbrev set-reply : List ℕ
+  abbrev set-reply : Bytes
   set-reply = setReply ah esp transforms (setNumbered number (saFrom 32 0 m))
 
-  abbrev payload : List ℕ
+  abbrev payload : Bytes
   payload = saOf 0 set-reply
 
   repeats : Repeats exchange ah esp s (λ j. chosenIn exchange (c .i) book (proposal j s)) (drop 4 payload)
@@ -306,7 +306,7 @@ module _ (exchange count : ℕ) (book m : List ℕ) (number : ProposalNumber) (l
         own-spi = a .own-spi;
       }
 
-  reads-back : (h : List ℕ) → Around exchange payload h → ReadsBack exchange ah esp number transforms s (h ++ payload)
+  reads-back : (h : Bytes) → Around exchange payload h → ReadsBack exchange ah esp number transforms s (h ++ payload)
   unfolding protocol
   reads-back h a =
       let sa = sa-is exchange payload h a lies in
@@ -321,14 +321,14 @@ module _ (exchange count : ℕ) (book m : List ℕ) (number : ProposalNumber) (l
       }
 
 -- every choice is answered by a reply that reads back: from a message that reads, a buffer with room and own SPIs that may be used
-pub reply-reads-back : (book m : List ℕ) (exchange count ah esp : ℕ) (number : ProposalNumber) (line : LineNumber) (transforms : Transforms) (buffer : List ℕ) →
+pub reply-reads-back : (book m : Bytes) (exchange count ah esp : ℕ) (number : ProposalNumber) (line : LineNumber) (transforms : Transforms) (buffer : Bytes) →
     message m ≡ Read exchange count → choice book m ≡ Chosen number line transforms → 2048 ≤ length buffer → ah < 4294967296 → esp < 4294967296 →
     spisLow ah esp transforms (setNumbered number (saFrom count 0 m)) ≡ false →
     TheReply exchange count ah esp m number transforms buffer (replied book m ah esp buffer)
 reply-reads-back book m exchange count ah esp number line transforms buffer readable chosen room small-ah small-esp high =
     let c = chose-says exchange count book m readable number line transforms chosen in
     let low : spisLow ah esp transforms (setNumbered number (saFrom 32 0 m)) ≡ false = rw (c .same-sa) high in
-    let bytes : List ℕ = saOf 0 (setReply ah esp transforms (setNumbered number (saFrom 32 0 m))) in
+    let bytes : Bytes = saOf 0 (setReply ah esp transforms (setNumbered number (saFrom 32 0 m))) in
     let few : length bytes ≤ 148 = short exchange count book m number line transforms c ah esp small-ah small-esp low in
     rw (choice-written book m buffer ah esp number line transforms chosen room low) (record {
       payload = bytes;
