@@ -13,11 +13,11 @@ tag s = getD s 0 0
 abbrev pub lengthByte : (s : Bytes) → ℕ
 lengthByte s = getD s 1 0
 
-abbrev pub longerLength : (s : Bytes) → ℕ
-longerLength s = getD s 2 0
+abbrev pub oneByteLength : (s : Bytes) → ℕ
+oneByteLength s = getD s 2 0
 
-abbrev pub longestLength : (s : Bytes) → ℕ
-longestLength s = numberAt 2 s 2
+abbrev pub twoByteLength : (s : Bytes) → ℕ
+twoByteLength s = numberAt 2 s 2
 
 -- "tag with low five bits not 31"
 unfoldable pub tagWrong : (s : Bytes) → Bool
@@ -31,16 +31,16 @@ constructed s = eqb (tag s / 32 % 2) 1
 unfoldable pub headSize : (s : Bytes) → ℕ
 headSize s =
     if ltb (lengthByte s) 0x80 then 2
-    else if eqb (lengthByte s) 0x81 && leb 0x80 (longerLength s) then 3
-    else if eqb (lengthByte s) 0x82 && leb 0x100 (longestLength s) then 4
+    else if eqb (lengthByte s) 0x81 && leb 0x80 (oneByteLength s) then 3
+    else if eqb (lengthByte s) 0x82 && leb 0x100 (twoByteLength s) then 4
     else 0
 
 -- the length, where it is in such a form
 unfoldable pub bodySize : (s : Bytes) → ℕ
 bodySize s =
     if ltb (lengthByte s) 0x80 then lengthByte s
-    else if eqb (lengthByte s) 0x81 then longerLength s
-    else longestLength s
+    else if eqb (lengthByte s) 0x81 then oneByteLength s
+    else twoByteLength s
 
 unfoldable pub contents : (s : Bytes) → Bytes
 contents s = take (bodySize s) (drop (headSize s) s)
