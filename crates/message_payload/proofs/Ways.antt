@@ -3,14 +3,18 @@ use Prim.Native.Nat.{ℕ, _≤_, _<_}
 use mathlib.Core.Path.{_≡_}
 use mathlib.Core.List.{List}
 use mathlib.Core.Bool.{Bool, true, false, _||_}
-use lib.ListN.{length, getD}
+use lib.ListN.{length, getD, take, drop}
 use lib.Dec.{ltb, eqb}
 use borrow.Author.Tests.{eq-eqb, ne-eqb, lt-ltb, le-ltb}
-use Rattle.wire_read.specs.Wire.{allZero}
+use Rattle.wire_read.specs.Wire.{numberAt, allZero}
 use Rattle.sa_proposals.specs.Proposals.{offerCode}
 use Rattle.message_payload.specs.Payloads.{typeWrong, lengthOut, certificateCode, bodyCode, bodyOf, payloadCode, restCode}
 
 -- ---- bodies
+
+pub body-taken : (s own r : List ℕ) (n : ℕ) → n ≡ numberAt 2 s 2 → own ≡ take n s → r ≡ drop 4 own → r ≡ bodyOf s
+unfolding bodyOf
+body-taken s own r n en eo er = rw (← en, ← eo) er
 
 module _ (body : List ℕ) where
   pub certificate-empty : length body ≡ 0 → 16 ≡ certificateCode body

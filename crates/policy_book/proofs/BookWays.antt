@@ -5,10 +5,16 @@ use mathlib.Core.List.{List}
 use mathlib.Core.Bool.{Bool, true, false, _&&_}
 use native.Mathlib.Omega.{arith}
 use lib.ListN.{length, getD}
-use lib.Dec.{eqb}
+use lib.Dec.{eqb, leb}
 use Rattle.policy_book.specs.Book.{mainLineLawful, quickLineLawful, mainLinesLawful, quickLinesLawful, bookInFront, bookRead}
-use Rattle.policy_lines.specs.Lines.{bookSize, quickCount}
+use Rattle.policy_lines.specs.Lines.{bookSize, quickCount, quickProtocols, quickMode, quickSeconds}
 use Rattle.policy_book.specs.declared.Book.the-variants.{Refused, Lawful}
+
+pub quick-fields : (i : ℕ) (book : List ℕ) (protocols mode seconds : ℕ) → protocols ≡ quickProtocols i book → mode ≡ quickMode i book →
+    seconds ≡ quickSeconds i book →
+    (leb 1 protocols && leb protocols 2 && leb 1 mode && leb mode 4 && leb 1 seconds && leb seconds 3600) ≡ quickLineLawful i book
+unfolding quickLineLawful
+quick-fields i book protocols mode seconds ep em es = rw (← ep, ← em, ← es)
 
 module _ (n : ℕ) (book : List ℕ) where
   pub main-none : n ≡ 0 → true ≡ mainLinesLawful n book
@@ -36,3 +42,9 @@ module _ (book : List ℕ) (f : Bool) (n : ℕ) (ef : f ≡ bookInFront book) (e
   pub book-unlawful : (f && eqb n (length book)) ≡ false → Refused 8193 ≡ bookRead book
   unfolding bookRead
   book-unlawful h = rw (← ef, ← en, h)
+
+pub front-fields : (s : List ℕ) (main quick size : ℕ) (mains quicks : Bool) → main ≡ getD s 0 0 → quick ≡ quickCount s → size ≡ bookSize s →
+    mains ≡ mainLinesLawful main s → quicks ≡ quickLinesLawful quick s →
+    (leb main 8 && leb quick 8 && leb 1 (length s) && leb size (length s) && mains && quicks) ≡ bookInFront s
+unfolding bookInFront
+front-fields s main quick size mains quicks em eq es el ek = rw (← em, ← eq, ← es, ← el, ← ek)

@@ -4,7 +4,7 @@ use mathlib.Core.Path.{_≡_, refl, sym, _∙_}
 use mathlib.Core.List.{List}
 use mathlib.Core.Bool.{Bool, true, false, _&&_}
 use native.Mathlib.Omega.{arith}
-use lib.ListN.{length, getD, take}
+use lib.ListN.{length, getD, take, drop}
 use lib.Dec.{eqb}
 use borrow.Author.Tests.{eq-eqb, ne-eqb}
 use Rattle.wire_read.specs.Tests.{if_then_else_}
@@ -13,8 +13,10 @@ use Rattle.message_chain.specs.Message.{message, payloadAt}
 use Rattle.message_chain.specs.declared.Message.{Message}
 use Rattle.message_chain.specs.declared.Message.the-variants as read
 use Rattle.message_chain.specs.declared.Payload.{Payload}
-use Rattle.sa_sets.specs.Sets.{set}
-use Rattle.sa_items.specs.Items.{proposal, proposalCount}
+use Rattle.sa_sets.specs.Sets.{set, setCount}
+use Rattle.sa_items.specs.Items.{proposal, proposalCount, transform}
+use Rattle.sa_fields.specs.Fields.{proposalNumber, transformNumber}
+use Rattle.sa_fields.specs.declared.ProposalNumber.{ProposalNumber}
 use Rattle.sa_fields.specs.declared.TransformNumber.{TransformNumber}
 use Rattle.policy_lines.specs.Lines.{mainCount, quickCount, bookSize}
 use Rattle.policy_book.specs.Book.{bookInFront, bookRead}
@@ -22,9 +24,10 @@ use Rattle.policy_suits.specs.Suits.{lowest, setSuits}
 use Rattle.policy_choice.specs.Choice.{lineCount, lineFrom, firstLine, numberOf, transformsOf, chosen, setFrom, chooseFrom, bodyAt, saFrom, messageRefusal, messageChoice, bookChoice, choice}
 use Rattle.policy_book.specs.declared.Book.{Book}
 use Rattle.policy_book.specs.declared.Book.the-variants as books
+use Rattle.policy_choice.specs.declared.Transforms.{Transforms}
 use Rattle.policy_choice.specs.declared.Transforms.the-variants.{One, Two}
 use Rattle.policy_choice.specs.declared.Choice.{Choice}
-use Rattle.policy_choice.specs.declared.Choice.the-variants.{Refused}
+use Rattle.policy_choice.specs.declared.Choice.the-variants.{Refused, Chosen}
 
 -- ---- lines
 
@@ -55,7 +58,15 @@ module _ (n i exchange : ℕ) (book s : List ℕ) where
     pub line-on : b ≡ false → (r : ℕ) → r ≡ lineFrom (n - 1) (i + 1) exchange book s → r ≡ lineFrom n i exchange book s
     line-on h r e = rw (line-step n i exchange book s some, ← eb, h) e
 
+pub line-first : (exchange n r : ℕ) (book s : List ℕ) → n ≡ lineCount exchange book → r ≡ lineFrom n 0 exchange book s → r ≡ firstLine exchange book s
+unfolding firstLine
+line-first exchange n r book s en er = rw (← en) er
+
 -- ---- transforms
+
+pub number-taken : (k before : ℕ) (p t : List ℕ) (r : TransformNumber) → before ≡ k - 1 → t ≡ transform before p → r ≡ transformNumber t → r ≡ numberOf k p
+unfolding numberOf
+number-taken k before p t r eb et er = rw (← eb, ← et) er
 
 module _ (exchange i : ℕ) (book s p : List ℕ) (low : ℕ) (first : TransformNumber) (count : ℕ) (ep : p ≡ proposal 0 s)
     (el : low ≡ lowest exchange i book p) (ef : first ≡ numberOf low p) (ec : count ≡ proposalCount s) where
@@ -74,6 +85,12 @@ module _ (exchange i : ℕ) (book s p : List ℕ) (low : ℕ) (first : Transform
       rw (← ec, ne-eqb count 1 h, is, is2)
 
 -- ---- sets
+
+pub set-chosen : (exchange line i : ℕ) (book s p : List ℕ) (number : ProposalNumber) (transforms : Transforms) → p ≡ proposal 0 s →
+    number ≡ proposalNumber p → i ≡ line - 1 → transforms ≡ transformsOf exchange i book s →
+    Chosen number (record { 0 = line }) transforms ≡ chosen exchange line book s
+unfolding chosen
+set-chosen exchange line i book s p number transforms ep en ei et = rw (← ep, ← en, ← ei, ← et)
 
 set-step : (n k exchange : ℕ) (book body : List ℕ) → (n ≡ 0 → ⊥) →
     setFrom n k exchange book body ≡ (if eqb (firstLine exchange book (set k body)) 0 then setFrom (n - 1) (k + 1) exchange book body
@@ -94,7 +111,16 @@ module _ (n k exchange : ℕ) (book body : List ℕ) where
     pub sets-here : (line ≡ 0 → ⊥) → r ≡ chosen exchange line book s → r ≡ setFrom n k exchange book body
     sets-here h e = rw (set-step n k exchange book body some, ← es, ← el, ne-eqb line 0 h) e
 
+pub sets-all : (exchange n : ℕ) (book body : List ℕ) (r : Choice) → n ≡ setCount body → r ≡ setFrom n 0 exchange book body → r ≡ chooseFrom exchange book body
+unfolding chooseFrom
+sets-all exchange n book body r en er = rw (← en) er
+
 -- ---- the SA payload
+
+pub body-taken : (k : ℕ) (m behind own r : List ℕ) (p : Payload) → p ≡ payloadAt k m → behind ≡ drop (p .start) m → own ≡ take (p .length) behind →
+    r ≡ drop 4 own → r ≡ bodyAt k m
+unfolding bodyAt
+body-taken k m behind own r p ep eb eo er = rw (← ep, ← eb, ← eo) er
 
 sa-step : (n k : ℕ) (m : List ℕ) → (n ≡ 0 → ⊥) → saFrom n k m ≡ (if eqb (payloadAt k m .payloadtype) 1 then bodyAt k m else saFrom (n - 1) (k + 1) m)
 unfolding saFrom

@@ -5,18 +5,39 @@ use mathlib.Core.List.{List}
 use mathlib.Core.Bool.{Bool, true, false, not, _&&_, _||_, and-false}
 use native.Mathlib.Omega.{arith}
 use native.Mathlib.Numerals.{add-one}
-use lib.ListN.{take, drop}
+use lib.ListN.{length, take, drop}
 use lib.Dec.{eqb, leb}
 use borrow.Author.Tests.{eq-eqb, ne-eqb, le-leb, not-true, not-false}
 use Rattle.wire_read.specs.Tests.{if_then_else_}
 use Rattle.wire_read.proofs.Parts.{skip-next}
 use Rattle.wire_read.specs.Wire.{numberAt}
 use Rattle.sa_proposals.specs.Proposals.{transformBytes}
-use Rattle.sa_fields.specs.Fields.{transformId, attributesOf, protocol}
+use Rattle.sa_attribute.specs.Attributes.{attribute, value}
+use Rattle.sa_fields.specs.Fields.{transformId, transformCount, attributesOf, protocol}
 use Rattle.wire_read.specs.Parts.{skip}
 use Rattle.sa_items.specs.Items.{firstItem, afterItem, transform, proposal, proposalCount}
 use Rattle.policy_lines.specs.Lines.{mainSeconds, quickProtocols, quickMode, quickSeconds}
-use Rattle.policy_suits.specs.Suits.{valueIs, nothingSurplus, quickId, lifeWithin, quickAuthentication, mainSuits, quickSuits, suitsQuickLine, suitsLine, transformSuits, lowestFrom, lowest, protocolsAlone, protocolsBoth, protocolsSuit, setSuits}
+use Rattle.policy_suits.specs.Suits.{present, valueIs, mainValues, nothingSurplus, quickId, lifeWithin, quickAuthentication, mainSuits, quickSuits, suitsQuickLine, suitsLine, transformSuits, lowestFrom, lowest, protocolsAlone, protocolsBoth, protocolsSuit, setSuits}
+
+module _ (attributetype : ℕ) (attributes found : List ℕ) (v : ℕ) (ef : found ≡ attribute attributetype attributes) (ev : v ≡ value found) where
+  pub value-found : (wanted : ℕ) → (leb 4 (length found) && eqb v wanted) ≡ valueIs attributetype wanted attributes
+  unfolding valueIs present
+  value-found wanted = rw (← ef, ← ev)
+
+  pub life-found : (longest : ℕ) → (leb 4 (length found) && leb 1 v && leb v longest) ≡ lifeWithin attributetype longest attributes
+  unfolding lifeWithin present
+  life-found longest = rw (← ef, ← ev)
+
+pub values-found : (attributes : List ℕ) (a b c d e : Bool) → a ≡ valueIs 1 129 attributes → b ≡ valueIs 2 20 attributes → c ≡ valueIs 3 10 attributes →
+    d ≡ valueIs 20 2 attributes → e ≡ valueIs 11 1 attributes → (a && b && c && d && e) ≡ mainValues attributes
+unfolding mainValues
+values-found attributes a b c d e ea eb ec ed ee = rw (← ea, ← eb, ← ec, ← ed, ← ee)
+
+pub main-found : (seconds id : ℕ) (t attributes : List ℕ) (values life few : Bool) → attributes ≡ attributesOf t → id ≡ transformId t →
+    values ≡ mainValues attributes → life ≡ lifeWithin 12 seconds attributes → few ≡ nothingSurplus 6 attributes →
+    (eqb id 1 && values && life && few) ≡ mainSuits seconds t
+unfolding mainSuits
+main-found seconds id t attributes values life few ea ei ev el ef = rw (← ea, ← ei, ← ev, ← el, ← ef)
 
 pub authentication-both : (protocols protocol : ℕ) (attributes : List ℕ) (a b : Bool) → (eqb protocols 2 && eqb protocol 3) ≡ false →
     a ≡ valueIs 5 20 attributes → b ≡ nothingSurplus 4 attributes → (a && b) ≡ quickAuthentication protocols protocol attributes
@@ -83,17 +104,31 @@ module _ (n k exchange i : ℕ) (book p : List ℕ) where
     unfolding afterItem
     lowest-rest after ea = rw (add-one, skip-next afterItem k (transformBytes p), ← er, ← es) ea
 
-    module _ (some : n ≡ 0 → ⊥) (attributetype : ℕ) (ek : attributetype ≡ protocol p) (t : List ℕ) (et : t ≡ take size rest) (b : Bool)
-        (eb : b ≡ suitsLine exchange i book attributetype t) where
+    module _ (some : n ≡ 0 → ⊥) (number : ℕ) (en : number ≡ protocol p) (t : List ℕ) (et : t ≡ take size rest) (b : Bool)
+        (eb : b ≡ suitsLine exchange i book number t) where
       is : b ≡ transformSuits exchange i book p k
       unfolding transformSuits transform firstItem
-      is = rw (← er, ← es, ← et, ← ek) eb
+      is = rw (← er, ← es, ← et, ← en) eb
 
       pub lowest-here : b ≡ true → k + 1 ≡ lowestFrom n k exchange i book p
       lowest-here h = rw (lowest-step n k exchange i book p some, ← is, h)
 
       pub lowest-on : b ≡ false → (r : ℕ) → r ≡ lowestFrom (n - 1) (k + 1) exchange i book p → r ≡ lowestFrom n k exchange i book p
       lowest-on h r e = rw (lowest-step n k exchange i book p some, ← is, h) e
+
+pub lowest-all : (exchange i n r : ℕ) (book p : List ℕ) → n ≡ transformCount p → r ≡ lowestFrom n 0 exchange i book p → r ≡ lowest exchange i book p
+unfolding lowest
+lowest-all exchange i n r book p en er = rw (← en) er
+
+module _ (set p : List ℕ) (count first : ℕ) (ec : count ≡ proposalCount set) (ep : p ≡ proposal 0 set) (ef : first ≡ protocol p) where
+  pub one-protocol : (wanted : ℕ) → (eqb count 1 && eqb first wanted) ≡ protocolsAlone wanted set
+  unfolding protocolsAlone
+  one-protocol wanted = rw (← ec, ← ep, ← ef)
+
+  pub two-protocols : (q : List ℕ) (second : ℕ) → q ≡ proposal 1 set → second ≡ protocol q →
+      (eqb count 2 && (eqb first 2 && eqb second 3 || eqb first 3 && eqb second 2)) ≡ protocolsBoth set
+  unfolding protocolsBoth
+  two-protocols q second eq es = rw (← ec, ← ep, ← ef, ← eq, ← es)
 
 module _ (exchange i : ℕ) (book set : List ℕ) (r : Bool) where
   pub protocols-main : exchange ≡ 2 → r ≡ protocolsAlone 1 set → r ≡ protocolsSuit exchange i book set

@@ -2,7 +2,7 @@
 use Prim.Native.Nat.{ℕ, _≤_}
 use mathlib.Core.Path.{_≡_, sym, ap, _∙_}
 use mathlib.Core.List.{List}
-use mathlib.Core.Bool.{Bool, true, false, not, _&&_}
+use mathlib.Core.Bool.{Bool, true, false, not, _||_, _&&_}
 use native.Mathlib.Omega.{arith}
 use lib.ListN.{length, getD, take, drop, length-drop}
 use lib.Dec.{eqb, leb}
@@ -22,6 +22,11 @@ use Rattle.quick_write.specs.declared.Proposals.the-variants.{Offer}
 use Rattle.quick_end.specs.declared.Progress.{Progress}
 use Rattle.quick_end.specs.declared.End.{End}
 use Rattle.quick_step.specs.declared.StepAnswer.the-variants.{Send, Refused}
+
+pub wrong-identities : (first second : List ℕ) (a b : ℕ) → a ≡ identityCode 32 first → b ≡ identityCode 32 second →
+    not (eqb (length first) 0 && eqb (length second) 0 || eqb a 0 && eqb b 0) ≡ identitiesWrong first second
+unfolding identitiesWrong
+wrong-identities first second a b ea eb = rw (← ea, ← eb)
 
 -- ---- an identity is short
 

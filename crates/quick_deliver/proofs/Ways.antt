@@ -27,12 +27,14 @@ use Rattle.quick_write.proofs.Laws.{longer-fits}
 use Rattle.quick_end.specs.Fresh.{isInitiator, isGivenUp}
 use Rattle.quick_shape.specs.Shapes.{isLonger, alike, shapeOf}
 use Rattle.quick_check.specs.Checks.{readCode}
+use Rattle.quick_agreed.specs.Agreed.{spisOf, ownSpis}
 use Rattle.quick_taken.specs.Taken.{takenCode, agreedTwo}
 use Rattle.quick_step.specs.Steps.{small, kept, withState, afterStep, stepped, withProgress, repeatedStep, repeatedOutput}
 use Rattle.quick_deliver.specs.Deliver.{earlyCode, deliveryCode, identityAt, messageTwoTo, agreedOne, opened, atInitiator, halfway, afterChoice, atResponder, delivered}
 use Rattle.quick_end.specs.declared.State.{State}
 use Rattle.quick_end.specs.declared.State.the-variants.{Idle, Sent, Half, Open, GivenUp}
 use Rattle.quick_end.specs.declared.Own.{Own}
+use Rattle.quick_end.specs.declared.Spis.{Spis}
 use Rattle.quick_end.specs.declared.Agreed.{Agreed}
 use Rattle.quick_end.specs.declared.Progress.{Progress}
 use Rattle.quick_write.specs.declared.Proposals.the-variants.{Reply}
@@ -112,6 +114,11 @@ module _ (k : ℕ) (m r : List ℕ) (found : ℕ) (es : found ≡ shapeOf m) whe
   pub identity-none : (found ≡ 5 → ⊥) → r ≡ take 0 m → r ≡ identityAt k m
   unfolding identityAt
   identity-none h e = rw (← es, ne-eqb found 5 h) e
+
+pub one-agreed : (own : Own) (number : ProposalNumber) (transforms : Transforms) (s : List ℕ) (initiator responder : Spis) → initiator ≡ spisOf s →
+    responder ≡ ownSpis (own .ah) (own .esp) s →
+    record { set = number; transforms = transforms; initiator = initiator; responder = responder } ≡ agreedOne own number transforms s
+one-agreed own number transforms s initiator responder ei er = rw (← ei, ← er)
 
 module _ (l b m s one two : List ℕ) (own : Own) (transforms : Transforms) (id n : ℕ) where
   pub two-written : length s ≤ 2048 → length m ≤ 2048 → id ≡ messageIdOf m → one ≡ identityAt 3 m → two ≡ identityAt 4 m →

@@ -4,9 +4,10 @@ use mathlib.Core.Path.{_≡_, sym, ap, _∙_}
 use mathlib.Core.List.{List}
 use mathlib.Core.Bool.{Bool, true, false, not, _||_, _&&_}
 use native.Mathlib.Omega.{arith}
-use lib.ListN.{length, take}
+use lib.ListN.{length, take, replicate}
 use lib.Dec.{eqb, ltb, leb}
 use borrow.Author.Tests.{eq-eqb, ne-eqb}
+use Rattle.wire_write.specs.Put.{paste}
 use Rattle.policy_lines.specs.Lines.{bookSize}
 use Rattle.policy_book.specs.Book.{bookInFront}
 use Rattle.policy_book.proofs.Laws.{book-short}
@@ -21,6 +22,22 @@ pub none-fits : (s none : List ℕ) (n : ℕ) → none ≡ take 0 s → length n
 none-fits s none n e = omega (arith, ap length e)
 
 -- ---- a fresh end
+
+pub own-made : (role : Role) (icookie rcookie : ℕ) (book : List ℕ) (ah esp : ℕ) (nonce own-book own-nonce : List ℕ) →
+    own-book ≡ paste (replicate 82 0) 0 book → own-nonce ≡ paste (replicate 256 0) 0 nonce →
+    record {
+      role = role;
+      icookie = icookie;
+      rcookie = rcookie;
+      ah = ah;
+      esp = esp;
+      booksize = length book;
+      book = own-book;
+      noncesize = length nonce;
+      nonce = own-nonce;
+    } ≡ ownOf role icookie rcookie book ah esp nonce
+unfolding ownOf
+own-made role icookie rcookie book ah esp nonce own-book own-nonce eb en = rw (eb, en)
 
 module _ (icookie rcookie : ℕ) (book : List ℕ) (ah esp : ℕ) (nonce : List ℕ) where
   pub fresh-cookies : (eqb icookie 0 || eqb rcookie 0) ≡ true → 4 ≡ freshCode icookie rcookie book ah esp nonce

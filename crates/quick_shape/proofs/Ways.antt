@@ -3,13 +3,16 @@ use Prim.Native.Nat.{ℕ}
 use mathlib.Core.Path.{_≡_}
 use mathlib.Core.List.{List}
 use mathlib.Core.Bool.{Bool, true, false, _||_, _&&_}
-use lib.ListN.{take}
+use lib.ListN.{length, take, drop}
 use lib.Dec.{eqb}
+use Rattle.wire_read.specs.Wire.{equal}
 use Rattle.message_chain.specs.Message.{message}
 use Rattle.message_chain.specs.declared.Message.{Message}
 use Rattle.message_chain.specs.declared.Message.the-variants.{Refused, Read}
 use Rattle.policy_choice.specs.Choice.{bodyAt}
-use Rattle.quick_shape.specs.Shapes.{typeIs, shape, isLonger, nonceRead, nonceIn}
+use Rattle.quick_end.specs.declared.Role.{Role}
+use Rattle.quick_end.specs.declared.Role.the-variants.{Initiator, Responder}
+use Rattle.quick_shape.specs.Shapes.{typeIs, shape, isLonger, alike, countOf, shapeOf, nonceRead, nonceIn, nonce}
 
 -- ---- shape
 
@@ -23,7 +26,27 @@ module _ (count : ℕ) (m : List ℕ) (k1 k2 k3 k4 k0 : Bool) (e1 : k1 ≡ typeI
   unfolding shape
   shape-other h = rw (← e0, ← e1, ← e2, ← e3, ← e4, h)
 
+pub shape-read : (m : List ℕ) (c : Message) (count r : ℕ) → r ≡ shape count m → count ≡ countOf c → c ≡ message m → r ≡ shapeOf m
+unfolding shapeOf
+shape-read m c count r er en ec = rw (← ec, ← en) er
+
+-- ---- equal messages
+
+pub both-alike : (m n a b d e : List ℕ) (front behind : Bool) → front ≡ equal a b → a ≡ take 32 m → b ≡ take 32 n → behind ≡ equal d e → d ≡ drop 64 m →
+    e ≡ drop 64 n → (eqb (length m) (length n) && front && behind) ≡ alike m n
+unfolding alike
+both-alike m n a b d e front behind ef ea eb eh ed ee = rw (← ea, ← eb, ← ef, ← ed, ← ee, ← eh)
+
 -- ---- the nonce
+
+module _ (role : Role) (one two r : List ℕ) where
+  pub nonce-one : role ≡ Initiator → r ≡ nonceIn one → r ≡ nonce role one two
+  unfolding nonce
+  nonce-one h e = rw h e
+
+  pub nonce-two : role ≡ Responder → r ≡ nonceIn two → r ≡ nonce role one two
+  unfolding nonce
+  nonce-two h e = rw h e
 
 module _ (m r : List ℕ) (c : Message) (ec : c ≡ message m) where
   pub nonce-refused : (number : ℕ) → c ≡ Refused number → r ≡ take 0 m → r ≡ nonceIn m

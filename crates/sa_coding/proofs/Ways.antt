@@ -2,18 +2,29 @@
 use Prim.Native.Nat.{ℕ, zero, suc, _+_, _-_, _≤_, _<_}
 use mathlib.Core.Path.{_≡_, refl, sym, ap, _∙_}
 use mathlib.Core.List.{List, _++_}
-use mathlib.Core.Bool.{Bool, true, false, not}
+use mathlib.Core.Bool.{Bool, true, false, not, _&&_}
 use native.Mathlib.Omega.{arith}
 use lib.ListN.{length, take, drop, length-drop}
 use lib.Seq.{drop-drop, take-add}
-use lib.Dec.{eqb}
+use lib.Dec.{eqb, leb}
 use borrow.Author.Tests.{eq-eqb, ne-eqb, le-leb, lt-leb}
+use Rattle.wire_read.specs.Wire.{numberAt}
 use Rattle.wire_read.specs.Tests.{if_then_else_}
 use Rattle.sa_coding.proofs.Laws.{sound}
-use Rattle.sa_attribute.specs.Attributes.{attributeType, attributeSize, afterAttribute, attribute}
-use Rattle.sa_coding.specs.Coding.{outOfBounds, fixedWrong, durationWrong, attributeCode, attributesFrom}
+use Rattle.sa_attribute.specs.Attributes.{sentFixed, attributeType, attributeSize, afterAttribute, attribute}
+use Rattle.sa_coding.specs.Coding.{outOfBounds, mustBeFixed, fixedWrong, isDuration, durationWrong, attributeCode, attributesFrom}
 
 -- ---- one attribute
+
+module _ (exchange : ℕ) (s : List ℕ) (attributetype : ℕ) (fixed : Bool) (ea : attributetype ≡ attributeType s) (ef : fixed ≡ sentFixed s) where
+  pub wrong-form : (must : Bool) → must ≡ mustBeFixed exchange attributetype → (must && not fixed) ≡ fixedWrong exchange s
+  unfolding fixedWrong
+  wrong-form must em = rw (← ea, ← em, ← ef)
+
+  pub wrong-duration : (duration : Bool) (n : ℕ) → n ≡ numberAt 2 s 2 → duration ≡ isDuration exchange attributetype →
+      (duration && not fixed && not (leb 1 n && leb n 4)) ≡ durationWrong exchange s
+  unfolding durationWrong
+  wrong-duration duration n en ed = rw (← ea, ← ed, ← ef, ← en)
 
 module _ (exchange : ℕ) (before s : List ℕ) (b : Bool) (eb : b ≡ outOfBounds s) where
   pub code-bounds : b ≡ true → 15 ≡ attributeCode exchange before s

@@ -1,19 +1,39 @@
 -- A law for each way out of the functions on proposals.
-use Prim.Native.Nat.{ℕ, zero, suc, _-_, _≤_, _<_}
+use Prim.Native.Nat.{ℕ, zero, suc, _+_, _-_, _≤_, _<_}
 use mathlib.Core.Path.{_≡_, refl}
 use mathlib.Core.List.{List}
-use mathlib.Core.Bool.{Bool, true, false, not, _&&_}
+use mathlib.Core.Bool.{Bool, true, false, not, _&&_, _||_}
 use native.Mathlib.Omega.{arith}
-use lib.ListN.{length, getD, drop}
-use lib.Dec.{eqb}
+use lib.ListN.{length, getD, take, drop}
+use lib.Dec.{eqb, leb, ltb}
 use borrow.Author.Tests.{eq-eqb, ne-eqb, lt-ltb, le-ltb}
 use Rattle.wire_read.specs.Wire.{numberAt}
 use Rattle.wire_read.specs.Tests.{if_then_else_}
 use Rattle.sa_transforms.specs.Transforms.{transformsCode}
-use Rattle.sa_proposals.specs.Proposals.{proposalWrong, with, none, setBefore, orderWrong, protocolWrong, spiWrong, countWrong, transformBytes, innerCode, proposalCode, proposalsCode, offerCode}
+use Rattle.sa_proposals.specs.Proposals.{proposalWrong, has, with, none, setBefore, orderWrong, protocolWrong, spiWrong, countWrong, transformBytes, innerCode, proposalCode, proposalsCode, offerCode}
 use Rattle.sa_proposals.specs.declared.Protocols.{Protocols}
 
 -- ---- one proposal
+
+pub wrong-fields : (s : List ℕ) (next reserved n size : ℕ) → next ≡ getD s 0 0 → n ≡ numberAt 2 s 2 → reserved ≡ getD s 1 0 → size ≡ getD s 6 0 →
+    (ltb (length s) 8 || not (eqb next 0 || eqb next 2) || not (eqb reserved 0) || ltb n (8 + size) || ltb (length s) n) ≡ proposalWrong s
+unfolding proposalWrong
+wrong-fields s next reserved n size ex en er es = rw (← ex, ← en, ← er, ← es)
+
+pub wrong-order : (previous : ℕ) (set before : Protocols) (s : List ℕ) (number protocol : ℕ) (twice : Bool) → number ≡ getD s 4 0 →
+    before ≡ setBefore previous set number → protocol ≡ getD s 5 0 → twice ≡ has before protocol → (ltb number previous || twice) ≡ orderWrong previous set s
+unfolding orderWrong
+wrong-order previous set before s number protocol twice en eb ep et = rw (← en, ← eb, ← ep, ← et)
+
+pub wrong-spi : (exchange : ℕ) (s : List ℕ) (size spi : ℕ) → size ≡ getD s 6 0 → spi ≡ numberAt 4 s 8 →
+    not (eqb exchange 2 && eqb size 0 || eqb exchange 32 && eqb size 4 && leb 256 spi) ≡ spiWrong exchange s
+unfolding spiWrong
+wrong-spi exchange s size spi es ei = rw (← es, ← ei)
+
+pub transforms-taken : (s own r : List ℕ) (n size : ℕ) → n ≡ numberAt 2 s 2 → own ≡ take n s → size ≡ getD s 6 0 → r ≡ drop (8 + size) own →
+    r ≡ transformBytes s
+unfolding transformBytes
+transforms-taken s own r n size en eo es er = rw (← en, ← eo, ← es) er
 
 module _ (previous : ℕ) (set : Protocols) (number : ℕ) where
   pub set-goes-on : number ≡ previous → set ≡ setBefore previous set number

@@ -1,10 +1,9 @@
-use Rattle.policy_suits.specs.Suits.{mainSuits}
+use Rattle.policy_suits.proofs.SuitWays.{main-found}
 use borrow.Author.Needs.{needs}
 use Rattle.policy_suits.proofs.main_suits.Statement.{statement}
 use Rattle.policy_suits.proofs.main_suits.Tie as tie
 
 pub main-suits-spec : {M : Type 1} → statement M
-unfolding mainSuits
 main-suits-spec =
     tie.close
     (tie.spec
@@ -13,4 +12,4 @@ main-suits-spec =
     (λ c κs. search needs)
     (λ c κs. search needs)
     (λ c κs. search needs)
-    (λ c. cc))
+    (λ c. search main-found))

@@ -1,10 +1,9 @@
-use Rattle.policy_suits.specs.Suits.{mainValues}
+use Rattle.policy_suits.proofs.SuitWays.{values-found}
 use borrow.Author.Needs.{needs}
 use Rattle.policy_suits.proofs.main_values.Statement.{statement}
 use Rattle.policy_suits.proofs.main_values.Tie as tie
 
 pub main-values-spec : {M : Type 1} → statement M
-unfolding mainValues
 main-values-spec =
     tie.close
     (tie.spec
@@ -13,4 +12,4 @@ main-values-spec =
     (λ c κs. search needs)
     (λ c κs. search needs)
     (λ c κs. search needs)
-    (λ c. cc))
+    (λ c. search values-found))

@@ -1,10 +1,9 @@
-use Rattle.policy_suits.specs.Suits.{protocolsBoth}
+use Rattle.policy_suits.proofs.SuitWays.{two-protocols}
 use borrow.Author.Needs.{needs}
 use Rattle.policy_suits.proofs.protocols_both.Statement.{statement}
 use Rattle.policy_suits.proofs.protocols_both.Tie as tie
 
 pub protocols-both-spec : {M : Type 1} → statement M
-unfolding protocolsBoth
 protocols-both-spec =
     tie.close
     (tie.spec
@@ -13,4 +12,4 @@ protocols-both-spec =
     (λ c κs. search needs)
     (λ c κs. search needs)
     (λ c κs. search needs)
-    (λ c. cc))
+    (λ c. search two-protocols))

@@ -1,10 +1,9 @@
-use Rattle.policy_suits.specs.Suits.{valueIs, present}
+use Rattle.policy_suits.proofs.SuitWays.{value-found}
 use borrow.Author.Needs.{needs}
 use Rattle.policy_suits.proofs.value_is.Statement.{statement}
 use Rattle.policy_suits.proofs.value_is.Tie as tie
 
 pub value-is-spec : {M : Type 1} → statement M
-unfolding valueIs present
 value-is-spec = tie.close (tie.spec (λ c κs. search needs)
     (λ c κs. search needs)
-    (λ c. cc))
+    (λ c. search value-found))

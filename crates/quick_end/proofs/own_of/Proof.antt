@@ -1,10 +1,9 @@
-use Rattle.quick_end.specs.Fresh.{ownOf}
+use Rattle.quick_end.proofs.Ways.{own-made}
 use borrow.Author.Needs.{needs}
 use Rattle.quick_end.proofs.own_of.Statement.{statement}
 use Rattle.quick_end.proofs.own_of.Tie as tie
 
 pub own-of-spec : {M : Type 1} → statement M
-unfolding ownOf
 own-of-spec =
     tie.close
     (tie.spec
@@ -14,4 +13,4 @@ own-of-spec =
     (λ c κs. search needs)
     (λ c. search needs)
     (λ c. search needs)
-    (λ c. cc))
+    (λ c. search own-made))

@@ -1,10 +1,9 @@
-use Rattle.quick_shape.specs.Shapes.{alike}
+use Rattle.quick_shape.proofs.Ways.{both-alike}
 use borrow.Author.Needs.{needs}
 use Rattle.quick_shape.proofs.alike.Statement.{statement}
 use Rattle.quick_shape.proofs.alike.Tie as tie
 
 pub alike-spec : {M : Type 1} → statement M
-unfolding alike
 alike-spec =
     tie.close
     (tie.spec
@@ -14,4 +13,4 @@ alike-spec =
     (λ c κs. search needs)
     (λ c κs. search needs)
     (λ c κs. search needs)
-    (λ c. cc))
+    (λ c. search both-alike))

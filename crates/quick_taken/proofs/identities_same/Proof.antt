@@ -1,10 +1,9 @@
-use Rattle.quick_taken.specs.Taken.{identitiesSame}
+use Rattle.quick_taken.proofs.Ways.{identities-compared}
 use borrow.Author.Needs.{needs}
 use Rattle.quick_taken.proofs.identities_same.Statement.{statement}
 use Rattle.quick_taken.proofs.identities_same.Tie as tie
 
 pub identities-same-spec : {M : Type 1} → statement M
-unfolding identitiesSame
 identities-same-spec =
     tie.close
     (tie.spec
@@ -15,4 +14,4 @@ identities-same-spec =
     (λ c κs. search needs)
     (λ c κs. search needs)
     (λ c κs. search needs)
-    (λ c. cc))
+    (λ c. search identities-compared))

@@ -1,10 +1,9 @@
-use Rattle.quick_taken.specs.Taken.{offeredSet}
+use Rattle.quick_taken.proofs.Ways.{set-offered}
 use borrow.Author.Needs.{needs}
 use Rattle.quick_taken.proofs.offered_set.Statement.{statement}
 use Rattle.quick_taken.proofs.offered_set.Tie as tie
 
 pub offered-set-spec : {M : Type 1} → statement M
-unfolding offeredSet
 offered-set-spec =
     tie.close
     (tie.spec
@@ -13,4 +12,4 @@ offered-set-spec =
     (λ c κs. search needs)
     (λ c κs. search needs)
     (λ c κs. search needs)
-    (λ c. cc))
+    (λ c. search set-offered))

@@ -1,10 +1,9 @@
-use Rattle.quick_taken.specs.Taken.{proposalTaken}
+use Rattle.quick_taken.proofs.Ways.{proposal-compared}
 use borrow.Author.Needs.{needs}
 use Rattle.quick_taken.proofs.proposal_taken.Statement.{statement}
 use Rattle.quick_taken.proofs.proposal_taken.Tie as tie
 
 pub proposal-taken-spec : {M : Type 1} → statement M
-unfolding proposalTaken
 proposal-taken-spec =
     tie.close
     (tie.spec
@@ -14,4 +13,4 @@ proposal-taken-spec =
     (λ c κs. search needs)
     (λ c κs. search needs)
     (λ c κs. search needs)
-    (λ c. cc))
+    (λ c. search proposal-compared))

@@ -1,10 +1,9 @@
-use Rattle.quick_taken.specs.Taken.{setTaken}
+use Rattle.quick_taken.proofs.Ways.{set-compared}
 use borrow.Author.Needs.{needs}
 use Rattle.quick_taken.proofs.set_taken.Statement.{statement}
 use Rattle.quick_taken.proofs.set_taken.Tie as tie
 
 pub set-taken-spec : {M : Type 1} → statement M
-unfolding setTaken
 set-taken-spec =
     tie.close
     (tie.spec
@@ -16,4 +15,4 @@ set-taken-spec =
     (λ c κs. search needs)
     (λ c κs. search needs)
     (λ c κs. search needs)
-    (λ c. cc))
+    (λ c. search set-compared))

@@ -1,10 +1,9 @@
-use Rattle.sa_coding.specs.Coding.{durationWrong}
+use Rattle.sa_coding.proofs.Ways.{wrong-duration}
 use borrow.Author.Needs.{needs}
 use Rattle.sa_coding.proofs.duration_wrong.Statement.{statement}
 use Rattle.sa_coding.proofs.duration_wrong.Tie as tie
 
 pub duration-wrong-spec : {M : Type 1} → statement M
-unfolding durationWrong
 duration-wrong-spec =
     tie.close
     (tie.spec
@@ -12,4 +11,4 @@ duration-wrong-spec =
     (λ c κs. search needs)
     (λ c κs. search needs)
     (λ c κs. search needs)
-    (λ c. cc))
+    (λ c. search wrong-duration))

@@ -1,11 +1,10 @@
-use Rattle.sa_items.specs.Items.{afterItem}
+use Rattle.sa_items.proofs.Ways.{item-after}
 use borrow.Author.Needs.{needs}
 use Rattle.sa_items.proofs.after_item.Statement.{statement}
 use Rattle.sa_items.proofs.after_item.Tie as tie
 
 pub after-item-spec : {M : Type 1} → statement M
-unfolding afterItem
 after-item-spec = tie.close (tie.spec (λ c κs. search needs)
     (λ c. search needs)
     (λ c κs. search needs)
-    (λ c. cc))
+    (λ c. search item-after))

@@ -1,10 +1,9 @@
-use Rattle.sa_proposals.specs.Proposals.{proposalWrong}
+use Rattle.sa_proposals.proofs.ProposalWays.{wrong-fields}
 use borrow.Author.Needs.{needs}
 use Rattle.sa_proposals.proofs.proposal_wrong.Statement.{statement}
 use Rattle.sa_proposals.proofs.proposal_wrong.Tie as tie
 
 pub proposal-wrong-spec : {M : Type 1} → statement M
-unfolding proposalWrong
 proposal-wrong-spec =
     tie.close
     (tie.spec
@@ -15,4 +14,4 @@ proposal-wrong-spec =
     (λ c κs. search needs)
     (λ c. search needs)
     (λ c. search needs)
-    (λ c. cc))
+    (λ c. search wrong-fields))

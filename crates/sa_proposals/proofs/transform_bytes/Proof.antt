@@ -1,10 +1,9 @@
-use Rattle.sa_proposals.specs.Proposals.{transformBytes}
+use Rattle.sa_proposals.proofs.ProposalWays.{transforms-taken}
 use borrow.Author.Needs.{needs}
 use Rattle.sa_proposals.proofs.transform_bytes.Statement.{statement}
 use Rattle.sa_proposals.proofs.transform_bytes.Tie as tie
 
 pub transform-bytes-spec : {M : Type 1} → statement M
-unfolding transformBytes
 transform-bytes-spec =
     tie.close
     (tie.spec
@@ -15,4 +14,4 @@ transform-bytes-spec =
     (λ c. search needs)
     (λ c. search needs)
     (λ c κs. search needs)
-    (λ c. cc))
+    (λ c. search transforms-taken))

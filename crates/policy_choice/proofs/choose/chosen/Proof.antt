@@ -1,10 +1,9 @@
-use Rattle.policy_choice.specs.Choice.{chosen}
+use Rattle.policy_choice.proofs.ChoiceWays.{set-chosen}
 use borrow.Author.Needs.{needs}
 use Rattle.policy_choice.proofs.choose.chosen.Statement.{statement}
 use Rattle.policy_choice.proofs.choose.chosen.Tie as tie
 
 pub chosen-spec : {M : Type 1} → statement M
-unfolding chosen
 chosen-spec =
     tie.close
     (tie.spec
@@ -12,4 +11,4 @@ chosen-spec =
     (λ c κs. search needs)
     (λ c κs. search needs)
     (λ c κs. search needs)
-    (λ c. cc))
+    (λ c. search set-chosen))
