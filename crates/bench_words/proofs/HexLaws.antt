@@ -21,36 +21,36 @@ use Rattle.bench_words.specs.declared.hex.Parted.the-variants as Parts
 
 -- ---- digits
 
--- what value ensures of its answer decides it
-pub value-is : (d r : ℕ) → (48 ≤ d → d ≤ 57 → r ≡ d - 48) → (97 ≤ d → d ≤ 102 → r ≡ d - 87) → (65 ≤ d → d ≤ 70 → r ≡ d - 55) → (d < 48 → r ≡ 16) →
-    (57 < d → d < 65 → r ≡ 16) → (70 < d → d < 97 → r ≡ 16) → (102 < d → r ≡ 16) → r ≡ digitValue d
-unfolding digitValue
-value-is d r decimal lower upper below between middle above =
-    by-test (ltb d 48)
-    (λ t. let h = ltb-true d 48 t in rw (lt-leb 48 d h, lt-leb 97 d (omega arith), lt-leb 65 d (omega arith)) (below h))
-    (λ t.
-    let a = ltb-false d 48 t in
-    by-test (ltb d 58)
-    (λ t. let h = ltb-true d 58 t in rw (le-leb 48 d a, le-leb d 57 (omega arith)) (decimal a (omega arith)))
-    (λ t.
-    let b = ltb-false d 58 t in
-    by-test (ltb d 65)
-    (λ t. let h = ltb-true d 65 t in rw (lt-leb d 57 b, and-false, lt-leb 97 d (omega arith), lt-leb 65 d (omega arith)) (between (omega arith) h))
-    (λ t.
-    let e = ltb-false d 65 t in
-    by-test (ltb d 71)
-    (λ t. let h = ltb-true d 71 t in rw (lt-leb d 57 b, and-false, lt-leb 97 d (omega arith), le-leb 65 d e, le-leb d 70 (omega arith)) (upper e (omega arith)))
-    (λ t.
-    let f = ltb-false d 71 t in
-    by-test (ltb d 97)
-    (λ t. let h = ltb-true d 97 t in rw (lt-leb d 57 b, and-false, lt-leb 97 d (omega arith), lt-leb d 70 (omega arith), and-false) (middle (omega arith) h))
-    (λ t.
-    let g = ltb-false d 97 t in
-    by-test (ltb d 103)
-    (λ t. let h = ltb-true d 103 t in rw (lt-leb d 57 b, and-false, le-leb 97 d g, le-leb d 102 (omega arith)) (lower g (omega arith)))
-    (λ t.
-    let h = ltb-false d 103 t in
-    rw (lt-leb d 57 b, and-false, lt-leb d 102 (omega arith), and-false, lt-leb d 70 (omega arith), and-false) (above (omega arith))))))))
+module _ (d : ℕ) where
+  -- a digit of each kind
+  pub value-decimal : (r : ℕ) → 48 ≤ d → d ≤ 57 → r ≡ d - 48 → r ≡ digitValue d
+  unfolding digitValue
+  value-decimal r a b e = rw (le-leb 48 d a, le-leb d 57 b) e
+
+  pub value-lower : (r : ℕ) → 97 ≤ d → d ≤ 102 → r ≡ d - 87 → r ≡ digitValue d
+  unfolding digitValue
+  value-lower r a b e = rw (lt-leb d 57 (omega arith), and-false, le-leb 97 d a, le-leb d 102 b) e
+
+  pub value-upper : (r : ℕ) → 65 ≤ d → d ≤ 70 → r ≡ d - 55 → r ≡ digitValue d
+  unfolding digitValue
+  value-upper r a b e = rw (lt-leb d 57 (omega arith), and-false, lt-leb 97 d (omega arith), le-leb 65 d a, le-leb d 70 b) e
+
+  -- a byte below all digits, between two kinds of them, or above all
+  pub value-below : d < 48 → 16 ≡ digitValue d
+  unfolding digitValue
+  value-below h = rw (lt-leb 48 d h, lt-leb 97 d (omega arith), lt-leb 65 d (omega arith))
+
+  pub value-between : 57 < d → d < 65 → 16 ≡ digitValue d
+  unfolding digitValue
+  value-between a b = rw (lt-leb d 57 a, and-false, lt-leb 97 d (omega arith), lt-leb 65 d b)
+
+  pub value-middle : 70 < d → d < 97 → 16 ≡ digitValue d
+  unfolding digitValue
+  value-middle a b = rw (lt-leb d 57 (omega arith), and-false, lt-leb 97 d b, lt-leb d 70 a, and-false)
+
+  pub value-above : 102 < d → 16 ≡ digitValue d
+  unfolding digitValue
+  value-above a = rw (lt-leb d 57 (omega arith), and-false, lt-leb d 102 a, and-false, lt-leb d 70 (omega arith), and-false)
 
 zero-is-none : digitValue 0 ≡ 16
 unfolding digitValue

@@ -11,6 +11,6 @@ read-spec =
     (λ c κs. search needs)
     (λ c. search needs)
     (λ c κs. search needs)
+    (λ c. search told-then)
     (λ c. search (told-then, told-else))
-    (λ c. search (told-then, told-else))
-    (λ c. search (told-then, told-else)))
+    (λ c. search told-else))
