@@ -10,5 +10,5 @@ outcomePacked (Refused number) = number
 outcomePacked (Written size) = 65536 + size
 
 -- the number, beside the buffer after it
-unfoldable pub replyPacked : Outcome × Bytes → ℕ × Bytes
+unfoldable pub replyPacked : (replied : Outcome × Bytes) → ℕ × Bytes
 replyPacked (outcome, after) = (outcomePacked outcome, after)

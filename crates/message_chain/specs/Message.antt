@@ -16,8 +16,8 @@ use Rattle.message_chain.specs.declared.Message.the-variants.{Refused, R
 
 -- a message is refused, or its payloads are found
 pub data Reading : Type 0 where
-  refused : ℕ → Reading
-  payloads : List Payload → Reading
+  refused : (number : ℕ) → Reading
+  payloads : (ps : List Payload) → Reading
 
 -- payload j of those that were found, counted from 0
 abbrev nowhere : Payload

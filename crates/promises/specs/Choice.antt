@@ -116,10 +116,10 @@ module _ (book m : Bytes) (o : Offer book m) where
 
 -- ---- no two choices have the same number and values
 
-abbrev value-at : Answer → ℕ → ℕ
+abbrev value-at : (a : Answer) (n : ℕ) → ℕ
 value-at a n = getD (a .values) n 0
 
-abbrev meant : Answer → Choice
+abbrev meant : (a : Answer) → Choice
 meant a =
     if eqb (length (a .values)) 0 then Refused (a .number)
     else if eqb (length (a .values)) 3 then Chosen (record { 0 = value-at a 0 }) (record { 0 = value-at a 1 }) (One (record { 0 = value-at a 2 }))

@@ -46,5 +46,5 @@ unfoldable pub mainBook : Bytes
 mainBook = 0x01 ∷ 0x00 ∷ 0x00 ∷ 0x0e ∷ 0x10 ∷ 0x00 ∷ []
 
 -- one quick line of these protocols, mode 1, 3,600 seconds
-unfoldable pub quickBook : ℕ → Bytes
+unfoldable pub quickBook : (protocols : ℕ) → Bytes
 quickBook protocols = 0x00 ∷ 0x01 ∷ protocols ∷ 0x01 ∷ 0x00 ∷ 0x00 ∷ 0x0e ∷ 0x10 ∷ []

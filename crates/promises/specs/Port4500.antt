@@ -15,7 +15,7 @@ use Rattle.port4500.specs.declared.Datagram.{Datagram}
 use Rattle.port4500.specs.declared.Datagram.the-variants.{Keepalive, KeyExchange, Esp, Refused}
 
 -- the answer that a number and values stand for
-abbrev meant : Answer → Datagram
+abbrev meant : (a : Answer) → Datagram
 meant a =
     if eqb (length (a .values)) 0 then Refused (a .number)
     else if eqb (getD (a .values) 0 0) 1 then Keepalive

@@ -86,7 +86,7 @@ module _ (end : End) (sent got output : Bytes) where
 
 -- ---- no two answers of a step have the same number and values
 
-abbrev meant : Answer → StepAnswer
+abbrev meant : (a : Answer) → StepAnswer
 meant a = if eqb (length (a .values)) 0 then Refused (a .number) else if eqb (length (a .values)) 1 then Nothing else Send (getD (a .values) 1 0)
 
 meant-answer : (x : StepAnswer) → meant (stepAnswer x) ≡ x

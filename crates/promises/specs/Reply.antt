@@ -11,12 +11,12 @@ use lib.ListN.{length, getD, take, drop, length-drop, length-append, List·getD-
 use lib.Seq.{length-take-le, take-at, drop-at, take-add, drop-drop, getD-drop}
 use lib.Dec.{eqb}
 use borrow.Author.Tests.{eq-eqb, ne-eqb, le-ltb}
-use Rattle.wire_read.specs.Wire.{Bytes, numberAt}
+use Rattle.wire_read.specs.Wire.{Bytes, numberAt, nextField, reservedField, lengthField}
 use Rattle.wire_write.specs.Put.{bytesOf}
 use Rattle.wire_read.proofs.Tests.{by-test, passed}
 use Rattle.wire_read.proofs.Laws.{number-drop, number-take, number-append, number-append-add}
 use Rattle.wire_write.proofs.Laws.{length-bytesOf, number-bytesOf, paste-inside, drop-paste}
-use Rattle.message_header.specs.Header.{exchangeOf, flagsOf, firstPayload, lengthWrong, majorWrong, minorWrong, exchangeRefused, exchangeUnknown, flagsWrong, cookieZero, messageIdWrong, flaggedLengthWrong, noPayload, headerCode}
+use Rattle.message_header.specs.Header.{exchangeOf, flagsOf, firstPayload, versionOf, messageIdOf, headerLength, lengthWrong, majorWrong, minorWrong, exchangeRefused, exchangeUnknown, flagsWrong, cookieZero, messageIdWrong, flaggedLengthWrong, noPayload, headerCode}
 use Rattle.message_header.proofs.Laws as headers
 use Rattle.message_chain.specs.Message.{message}
 use Rattle.message_chain.specs.declared.Message.the-variants.{Read}
@@ -43,7 +43,7 @@ use Rattle.policy_reply.proofs.ReplyLaws.{Repeats, choice-repeats, choice-short
 -- ---- what is promised
 
 -- the number of the transform chosen in proposal j
-unfoldable pub chosenNumber : Transforms → ℕ → TransformNumber
+unfoldable pub chosenNumber : (transforms : Transforms) (j : ℕ) → TransformNumber
 chosenNumber (One t) j = t
 chosenNumber (Two t u) zero = t
 chosenNumber (Two t u) (suc j) = u
@@ -76,8 +76,8 @@ pub record Around (exchange : ℕ) (payload h : Bytes) : Type 0 where
   pub plain : flagsOf h ≡ 0
 
 -- one such header: the offer's, with an SA payload first, no flag, and the length of the reply's message
-unfoldable pub headerFor : Bytes → ℕ → Bytes
-headerFor m size = take 16 m ++ (1 ∷ getD m 17 0 ∷ getD m 18 0 ∷ 0 ∷ (take 4 (drop 20 m) ++ bytesOf 4 size))
+unfoldable pub headerFor : (m : Bytes) (size : ℕ) → Bytes
+headerFor m size = take 16 m ++ (1 ∷ versionOf m ∷ exchangeOf m ∷ 0 ∷ (take 4 (drop 20 m) ++ bytesOf 4 size))
 
 -- what `reply-reads-back`, at the end, shows of r, what is answered to a choice and the buffer after it: the buffer begins with an SA payload
 -- that reads back under every such header, and is else as it was
@@ -103,7 +103,7 @@ not-five esp-of e = omega arith
 
 -- the numbers that the choice names are those of the transforms that it takes
 module _ (exchange i : ℕ) (book s : Bytes) where
-  abbrev number-in : ℕ → TransformNumber
+  abbrev number-in : (j : ℕ) → TransformNumber
   number-in j = numberOf (lowest exchange i book (proposal j s)) (proposal j s)
 
   number-at : (j : ℕ) → j < 2 → j < proposalCount s → chosenNumber (transformsOf exchange i book s) j ≡ number-in j
@@ -121,11 +121,11 @@ module _ (exchange i : ℕ) (book s : Bytes) where
 record Alike (m n : Bytes) : Type 0 where
   cookies : take 8 n ≡ take 8 m
   cookies-too : take 8 (drop 8 n) ≡ take 8 (drop 8 m)
-  some : getD n 16 0 ≡ 1
-  version : getD n 17 0 ≡ getD m 17 0
-  same : getD n 18 0 ≡ getD m 18 0
-  flag : getD n 19 0 ≡ 0
-  id : numberAt 4 n 20 ≡ numberAt 4 m 20
+  some : firstPayload n ≡ 1
+  version : versionOf n ≡ versionOf m
+  same : exchangeOf n ≡ exchangeOf m
+  flag : flagsOf n ≡ 0
+  id : messageIdOf n ≡ messageIdOf m
   right : lengthWrong n ≡ false
 
 alike-lawful : (m n : Bytes) → Alike m n → headerCode m ≡ 0 → headerCode n ≡ 0
@@ -149,7 +149,7 @@ module _ (m payload : Bytes) (long : 28 ≤ length m) (few : length payload ≤ 
   made = headerFor m size ++ payload
 
   abbrev fields : Bytes
-  fields = 1 ∷ getD m 17 0 ∷ getD m 18 0 ∷ 0 ∷ []
+  fields = 1 ∷ versionOf m ∷ exchangeOf m ∷ 0 ∷ []
 
   abbrev last : Bytes
   last = (take 4 (drop 20 m) ++ bytesOf 4 size) ++ payload
@@ -181,13 +181,13 @@ module _ (m payload : Bytes) (long : 28 ≤ length m) (few : length payload ≤ 
   number-in-last : (k : ℕ) → numberAt 4 made (16 + (4 + k)) ≡ numberAt 4 last k
   number-in-last k = sym (number-drop 4 16 made (4 + k)) ∙ ap (λ (l : Bytes). numberAt 4 l (4 + k)) after-cookies ∙ number-append-add 4 fields last k
 
-  made-id : numberAt 4 made 20 ≡ numberAt 4 m 20
+  made-id : messageIdOf made ≡ messageIdOf m
   made-id =
       number-in-last 0
       ∙ number-append 4 (take 4 (drop 20 m) ++ bytesOf 4 size) payload 0 (omega (arith, id-long, length-append (take 4 (drop 20 m)) (bytesOf 4 size)))
       ∙ number-append 4 (take 4 (drop 20 m)) (bytesOf 4 size) 0 (omega (arith, id-long)) ∙ number-take 4 4 (drop 20 m) 0 (omega arith) ∙ number-drop 4 20 m 0
 
-  made-size : numberAt 4 made 24 ≡ size
+  made-size : headerLength made ≡ size
   made-size =
       number-in-last 4
       ∙ number-append 4 (take 4 (drop 20 m) ++ bytesOf 4 size) payload 4
@@ -254,11 +254,11 @@ module _ (exchange : ℕ) (payload h : Bytes) (a : Around exchange payload h) wh
   byte : (k : ℕ) → k < 28 → getD (h ++ payload) k 0 ≡ getD h k 0
   byte k l = List·getD-append h payload 0 k (omega (arith, a .header))
 
-  module _ (lies : numberAt 2 payload 2 ≡ length payload) where
+  module _ (lies : lengthField payload ≡ length payload) where
     sa-is : saFrom 1 0 (h ++ payload) ≡ drop 4 payload
     sa-is = sa-in-front (h ++ payload) (byte 16 (omega arith) ∙ a .an-sa) (rw behind lies) ∙ ap (drop 4) behind
 
-    message-reads : (exchange ≡ 5 → ⊥) → 4 ≤ length payload → getD payload 0 0 ≡ 0 → getD payload 1 0 ≡ 0 → offerCode exchange (drop 4 payload) ≡ 0 →
+    message-reads : (exchange ≡ 5 → ⊥) → 4 ≤ length payload → nextField payload ≡ 0 → reservedField payload ≡ 0 → offerCode exchange (drop 4 payload) ≡ 0 →
         message (h ++ payload) ≡ Read exchange 1
     message-reads other long last reserved reads =
         let same : exchangeOf (h ++ payload) ≡ exchange = byte 18 (omega arith) ∙ a .same-exchange in
@@ -286,7 +286,7 @@ module _ (exchange count : ℕ) (book m : Bytes) (number : ProposalNumber) (line
   short : length payload ≤ 148
   short = choice-short exchange count book m number line transforms c ah esp small-ah small-esp low 0
 
-  lies : numberAt 2 payload 2 ≡ length payload
+  lies : lengthField payload ≡ length payload
   lies = sa-lies 0 set-reply (omega (arith, short))
 
   repeated : (j : ℕ) → j < proposalCount s → Repeated ah esp number (proposal j s) (chosenNumber transforms j) (proposal j (set 0 (drop 4 payload)))

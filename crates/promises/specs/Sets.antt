@@ -23,22 +23,22 @@ use Rattle.sa_sets.proofs.Places.{same-at}
 -- ---- what is promised
 
 -- part 0, part 1 and so on, n of them
-unfoldable pub listed : (ℕ → Bytes) → ℕ → List Bytes
+unfoldable pub listed : (part : ℕ → Bytes) (n : ℕ) → List Bytes
 listed part zero = []
 listed part (suc n) = part 0 ∷ listed (λ k. part (suc k)) n
 
 -- the proposals in s, and the sets of a body, as they are handed out
-unfoldable pub proposals : Bytes → List Bytes
+unfoldable pub proposals : (s : Bytes) → List Bytes
 proposals s = listed (λ k. proposal k s) (proposalCount s)
 
-unfoldable pub sets : Bytes → List Bytes
+unfoldable pub sets : (body : Bytes) → List Bytes
 sets body = listed (λ k. set k body) (setCount body)
 
-abbrev pub number : Bytes → ℕ
+abbrev pub number : (p : Bytes) → ℕ
 number p = proposalNumber p .0
 
 -- those of the proposals that have number n
-unfoldable pub numbered : ℕ → List Bytes → List Bytes
+unfoldable pub numbered : (n : ℕ) (ps : List Bytes) → List Bytes
 numbered n [] = []
 numbered n (p ∷ ps) = if eqb (number p) n then p ∷ numbered n ps else numbered n ps
 
@@ -86,7 +86,7 @@ module _ (part : ℕ → Bytes) (n : ℕ) (l : List Bytes) (e : listed part n �
   part-of k h = sym (at-listed part n k h) ∙ ap (λ (x : List Bytes). getD x k []) e
 
 module _ (first rest : Bytes → Bytes) where
-  abbrev handed : ℕ → Bytes → List Bytes
+  abbrev handed : (left : ℕ) (s : Bytes) → List Bytes
   handed left s = listed (λ k. first (skip rest k s)) (parts rest left s)
 
   handed-none : (left : ℕ) → handed left [] ≡ []
