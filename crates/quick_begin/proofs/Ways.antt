@@ -12,13 +12,16 @@ use Rattle.wire_read.specs.Tests.{if_then_else_}
 use Rattle.wire_write.proofs.Laws.{put-size, put-made}
 use Rattle.wire_read.proofs.Tests.{clash, both, by-test, passed}
 use Rattle.identity.specs.Identity.{identityCode, lawful, quickData}
-use Rattle.quick_write.specs.Messages.{bookOf, lines, longer, proposalsOf, longerInto, messageOne}
-use Rattle.quick_write.proofs.Laws.{longer-fits}
+use Rattle.quick_write.specs.Messages.{bookOf, lines, proposalsOf, longerInto, messageOne}
+use Rattle.quick_write.proofs.Laws.{longer-written, longer-never}
 use Rattle.quick_end.specs.Fresh.{isIdle, isInitiator, isGivenUp}
 use Rattle.quick_step.specs.Steps.{small, afterStep, stepped, withProgress}
 use Rattle.quick_begin.specs.Begin.{identitiesWrong, beginCode, begun}
 use Rattle.quick_end.specs.declared.State.the-variants.{Sent}
 use Rattle.quick_write.specs.declared.Proposals.the-variants.{Offer}
+use Rattle.quick_write.specs.declared.Written.{Written}
+use Rattle.quick_write.specs.declared.Written.the-variants.{Size, TooLong}
+use Rattle.quick_end.specs.declared.Own.{Own}
 use Rattle.quick_end.specs.declared.Progress.{Progress}
 use Rattle.quick_end.specs.declared.End.{End}
 use Rattle.quick_step.specs.declared.StepAnswer.the-variants.{Send, Refused}
@@ -109,6 +112,12 @@ module _ (e : End) (id : ℕ) (first second : List ℕ) (tight : Bool) where
         let named = passed (eqb id 0) 9 _ (λ z. omega arith) (may .1) in
         wrong-few first second (passed (identitiesWrong first second) 18 _ (λ z. omega arith) (named .1) .0)
 
+    pub few-first : length first ≤ 36
+    few-first = few .0
+
+    pub few-second : length second ≤ 36
+    few-second = few .1
+
 module _ (e : End) (id : ℕ) (first second sent got output : List ℕ) (tight : Bool) (et : tight ≡ small sent got output) (code : ℕ)
     (ec : code ≡ beginCode e id first second tight) where
   pub begin-refused : (code ≡ 0 → ⊥) → begun e id first second sent got output ≡ afterStep (stepped e (Refused code)) sent got output
@@ -119,17 +128,26 @@ module _ (e : End) (id : ℕ) (first second sent got output : List ℕ) (tight :
   abbrev sent-at : (size : ℕ) → Progress
   sent-at size = record { state = Sent; sends = 1; id = id; sentsize = size; gotsize = e .progress .gotsize; agreed = e .progress .agreed }
 
-  pub begin-sent : code ≡ 0 → (none b c : List ℕ) (n k : ℕ) → none ≡ take 0 first →
-      longerInto sent (e .own) id Offer none first second ≡ (n, b) → longerInto output (e .own) id Offer none first second ≡ (k, c) →
+  pub begin-sent : code ≡ 0 → (b c : List ℕ) (n k : ℕ) →
+      put sent 0 (messageOne (e .own) id first second) ≡ (n, b) → put output 0 (messageOne (e .own) id first second) ≡ (k, c) →
       begun e id first second sent got output ≡ afterStep (stepped (withProgress (sent-at k) e) (Send k)) b got c
-  unfolding begun messageOne proposalsOf
-  begin-sent h none b c n k en eb ek =
-      let short = few e id first second tight code ec h in
-      let m : List ℕ = longer (e .own) id (proposalsOf (e .own) Offer none) first second in
-      let written : (l : List ℕ) → longerInto l (e .own) id Offer none first second ≡ put l 0 m =
-      λ l. longer-fits l (e .own) id Offer none first second (omega (arith, ap length en)) (omega (arith, short .0)) (omega (arith, short .1)) in
-      let to-output = sym (written output) ∙ ek in
-      let size = put-size output c 0 k _ to-output in
-      let in-sent = put-made sent b 0 n _ (sym (written sent) ∙ eb) in
-      let in-output = put-made output c 0 k _ to-output in
+  unfolding begun
+  begin-sent h b c n k eb ek =
+      let size = put-size output c 0 k _ ek in
+      let in-sent = put-made sent b 0 n _ eb in
+      let in-output = put-made output c 0 k _ ek in
       rw (← et, ← ec, eq-eqb code 0 h, size, in-sent, in-output)
+
+-- ---- message 1 is written
+
+module _ (buffer b none first second : List ℕ) (own : Own) (id : ℕ) (w : Written) (en : none ≡ take 0 first) (f : length first ≤ 36) (g : length second ≤ 36)
+    (e : longerInto buffer own id Offer none first second ≡ (w, b)) where
+  empty : length none ≤ 4096
+  empty = omega (arith, ap length en)
+
+  pub one-written : (n : ℕ) → w ≡ Size n → put buffer 0 (messageOne own id first second) ≡ (n, b)
+  unfolding messageOne proposalsOf
+  one-written n h = longer-written buffer own id Offer none first second empty (omega arith) (omega arith) w b e n h
+
+  pub one-never : w ≡ TooLong → put buffer 0 (messageOne own id first second) ≡ (0, b)
+  one-never h = longer-never buffer own id Offer none first second empty (omega arith) (omega arith) w b e h

@@ -1,6 +1,7 @@
 // Begin: an Idle initiator offers one set for each quick line.
 use identity::identity_code;
 use quick_end::End;
+use quick_end::Own;
 use quick_end::Progress;
 use quick_end::State;
 use quick_end::is_given_up;
@@ -10,10 +11,15 @@ use quick_step::StepAnswer;
 use quick_step::Stepped;
 use quick_step::small;
 use quick_write::Proposals;
+use quick_write::Written;
 use quick_write::lines;
 use quick_write::put_longer;
 use wire_read::front;
 ghost use mathlib.Core.Path.{_≡_};
+ghost use Prim.Native.Nat.{_≤_};
+ghost use lib.ListN.{length};
+ghost use Rattle.wire_write.specs.Put.{put};
+ghost use Rattle.quick_write.specs.Messages.{messageOne};
 ghost use Rattle.quick_step.specs.Steps.{afterStep};
 ghost use Rattle.quick_begin.specs.Begin.{identitiesWrong, beginCode, begun};
 
@@ -53,6 +59,20 @@ fn begin_code(end: End, id: u32, first: &[u8], second: &[u8], tight: bool) -> u1
     0
 }
 
+// Writes message 1; says how long it is.
+fn put_one(buffer: &mut [u8], own: Own, id: u32, first: &[u8], second: &[u8]) -> u16
+    requires { ⌜ (length (now first) ≤ 36) × (length (now second) ≤ 36) ⌝ }
+    ensures { λ r. ⌜ put (now (buffer .entry)) 0 (messageOne own id (now (first .entry)) (now (second .entry))) ≡ (r, now (buffer .exit)) ⌝ }
+{
+    let none = front(first, 0);
+    let written = put_longer(buffer, own, id, Proposals::Offer, none, first, second);
+    // Never: no part is too long.
+    let Written::Size(size) = written else {
+        return 0;
+    };
+    size
+}
+
 // Begins with a message ID and two identity bodies, both empty for none. Message 1 goes to `sent` and `output`.
 pub fn begin(
     end: End,
@@ -76,9 +96,8 @@ pub fn begin(
     let own = end.own;
     let progress = end.progress;
     let agreed = progress.agreed;
-    let none = front(first, 0);
-    put_longer(sent, own, id, Proposals::Offer, none, first, second);
-    let size = put_longer(output, own, id, Proposals::Offer, none, first, second);
+    put_one(sent, own, id, first, second);
+    let size = put_one(output, own, id, first, second);
     Stepped {
         end: End {
             own,

@@ -23,7 +23,9 @@ use Rattle.policy_choice.specs.declared.Transforms.{Transforms}
 use Rattle.policy_choice.specs.declared.Choice.{Choice}
 use Rattle.policy_choice.specs.declared.Choice.the-variants as choices
 use Rattle.quick_write.specs.Messages.{bookOf, longerInto, messageTwo, messageThree}
-use Rattle.quick_write.proofs.Laws.{longer-fits}
+use Rattle.quick_write.proofs.Laws.{longer-written, longer-never}
+use Rattle.quick_write.specs.declared.Written.{Written}
+use Rattle.quick_write.specs.declared.Written.the-variants.{Size, TooLong}
 use Rattle.quick_end.specs.Fresh.{isInitiator, isGivenUp}
 use Rattle.quick_shape.specs.Shapes.{isLonger, alike, shapeOf}
 use Rattle.quick_check.specs.Checks.{readCode}
@@ -120,13 +122,16 @@ pub one-agreed : (own : Own) (number : ProposalNumber) (transforms : Transforms)
     record { set = number; transforms = transforms; initiator = initiator; responder = responder } ≡ agreedOne own number transforms s
 one-agreed own number transforms s initiator responder ei er = rw (← ei, ← er)
 
-module _ (l b m s one two : List ℕ) (own : Own) (transforms : Transforms) (id n : ℕ) where
-  pub two-written : length s ≤ 2048 → length m ≤ 2048 → id ≡ messageIdOf m → one ≡ identityAt 3 m → two ≡ identityAt 4 m →
-      longerInto l own id (Reply transforms) s one two ≡ (n, b) → put l 0 (messageTwoTo m own transforms s) ≡ (n, b)
+module _ (l b m s one two : List ℕ) (own : Own) (transforms : Transforms) (id : ℕ) (w : Written) (fs : length s ≤ 2048) (fm : length m ≤ 2048)
+    (e1 : one ≡ identityAt 3 m) (e2 : two ≡ identityAt 4 m) (e : longerInto l own id (Reply transforms) s one two ≡ (w, b)) where
+  pub two-written : id ≡ messageIdOf m → (n : ℕ) → w ≡ Size n → put l 0 (messageTwoTo m own transforms s) ≡ (n, b)
   unfolding messageTwo
-  two-written fs fm ei e1 e2 e =
+  two-written ei n h =
       rw (← ei, ← e1, ← e2)
-      (sym (longer-fits l own id (Reply transforms) s one two (omega arith) (identity-within m fm 3 one e1) (identity-within m fm 4 two e2)) ∙ e)
+      (longer-written l own id (Reply transforms) s one two (omega arith) (identity-within m fm 3 one e1) (identity-within m fm 4 two e2) w b e n h)
+
+  pub two-never : w ≡ TooLong → put l 0 (messageTwoTo m own transforms s) ≡ (0, b)
+  two-never h = longer-never l own id (Reply transforms) s one two (omega arith) (identity-within m fm 3 one e1) (identity-within m fm 4 two e2) w b e h
 
 module _ (e : End) (m sent got output : List ℕ) where
   -- the record of an end that is open, and of one that is halfway

@@ -26,6 +26,7 @@ use quick_step::with_state;
 use quick_taken::agreed_two;
 use quick_taken::taken_code;
 use quick_write::Proposals;
+use quick_write::Written;
 use quick_write::put_longer;
 use quick_write::put_three;
 use sa_fields::ProposalNumber;
@@ -204,7 +205,12 @@ fn put_two(
     let first = identity_at(3, m, found);
     let second = identity_at(4, m, found);
     let reply = Proposals::Reply(transforms);
-    put_longer(buffer, own, id, reply, set, first, second)
+    let written = put_longer(buffer, own, id, reply, set, first, second);
+    // Never: no part is too long.
+    let Written::Size(size) = written else {
+        return 0;
+    };
+    size
 }
 
 // A set was chosen: the responder is Half, and writes message 2.

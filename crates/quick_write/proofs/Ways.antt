@@ -15,9 +15,10 @@ use Rattle.policy_suits.specs.Suits.{quickId}
 use Rattle.policy_reply.specs.Reply.{ownSpi, proposalOf, setReply, saOf}
 use Rattle.policy_reply.proofs.ReplyWays.{proposal-size, set-size, sa-size, sa-written}
 use Rattle.policy_choice.specs.declared.Transforms.{Transforms}
-use Rattle.quick_write.specs.Messages.{bookOf, nonceOf, fixed, authentication, attributes, transformOne, lineProposal, lineSet, nextSet, lineSets, lines, offerOf, hash, padding, padded, header, messageOf, around, nonceAndIdentities, proposalsOf, longer, tooLong, longerInto, messageThree}
+use Rattle.quick_write.specs.Messages.{bookOf, nonceOf, fixed, authentication, attributes, transformOne, lineProposal, lineSet, nextSet, lineSets, lines, offerOf, hash, padding, padded, header, messageOf, around, nonceAndIdentities, proposalsOf, longer, tooLong, written, longerInto, messageThree}
 use Rattle.quick_end.specs.declared.Own.{Own}
 use Rattle.quick_write.specs.declared.Proposals.{Proposals}
+use Rattle.quick_write.specs.declared.Written.the-variants.{Size, TooLong}
 use Rattle.quick_write.specs.declared.Proposals.the-variants.{Offer, Reply}
 
 -- ---- numbers
@@ -390,11 +391,11 @@ module _ (set first second : List ℕ) (fit : (ltb 4096 (length set) || ltb 4096
 
 module _ (l : List ℕ) (own : Own) (id : ℕ) (proposals : Proposals) (set first second : List ℕ) where
   pub longer-refused : (ltb 4096 (length set) || ltb 4096 (length first) || ltb 4096 (length second)) ≡ true →
-      longerInto l own id proposals set first second ≡ (0, l)
+      longerInto l own id proposals set first second ≡ (TooLong, l)
   unfolding longerInto tooLong
   longer-refused h = rw h
 
   pub longer-passed : (ltb 4096 (length set) || ltb 4096 (length first) || ltb 4096 (length second)) ≡ false → (n : ℕ) (b : List ℕ) →
-      put l 0 (longer own id (proposalsOf own proposals set) first second) ≡ (n, b) → longerInto l own id proposals set first second ≡ (n, b)
+      put l 0 (longer own id (proposalsOf own proposals set) first second) ≡ (n, b) → longerInto l own id proposals set first second ≡ (Size n, b)
   unfolding longerInto tooLong
-  longer-passed h n b e = rw h e
+  longer-passed h n b e = rw h (ap written e)

@@ -14,6 +14,8 @@ use Rattle.policy_choice.specs.declared.Transforms.{Transforms}
 use Rattle.quick_end.specs.declared.Own.{Own}
 use Rattle.quick_write.specs.declared.Proposals.{Proposals}
 use Rattle.quick_write.specs.declared.Proposals.the-variants.{Offer, Reply}
+use Rattle.quick_write.specs.declared.Written.{Written}
+use Rattle.quick_write.specs.declared.Written.the-variants.{Size, TooLong}
 
 -- the book and the nonce that an end was given
 unfoldable pub bookOf : (own : Own) → Bytes
@@ -103,14 +105,17 @@ unfoldable pub proposalsOf : (own : Own) (proposals : Proposals) (set : Bytes) �
 proposalsOf own Offer set = offerOf own
 proposalsOf own (Reply transforms) set = setReply (own .ah) (own .esp) transforms set
 
--- writing it at the front of a buffer; no end has a set or an identity over 4,096 bytes, and of one nothing is written
+-- writing it at the front of a buffer; no end has a set or an identity over 4,096 bytes: one is too long, and nothing is written
 unfoldable pub tooLong : (set first second : Bytes) → Bool
 tooLong set first second = ltb 4096 (length set) || ltb 4096 (length first) || ltb 4096 (length second)
 
-unfoldable pub longerInto : (buffer : Bytes) (own : Own) (id : ℕ) (proposals : Proposals) (set first second : Bytes) → ℕ × Bytes
+abbrev pub written : (put : ℕ × Bytes) → Written × Bytes
+written put = (Size (put .0), put .1)
+
+unfoldable pub longerInto : (buffer : Bytes) (own : Own) (id : ℕ) (proposals : Proposals) (set first second : Bytes) → Written × Bytes
 longerInto buffer own id proposals set first second =
-    if tooLong set first second then (0, buffer)
-    else put buffer 0 (longer own id (proposalsOf own proposals set) first second)
+    if tooLong set first second then (TooLong, buffer)
+    else written (put buffer 0 (longer own id (proposalsOf own proposals set) first second))
 
 unfoldable pub messageOne : (own : Own) (id : ℕ) (first second : Bytes) → Bytes
 messageOne own id first second = longer own id (proposalsOf own Offer []) first second

@@ -27,6 +27,12 @@ pub enum Proposals {
     Reply(Transforms),
 }
 
+// What writing a longer message answers: how long it is, or that a part is too long for one and nothing is written.
+pub enum Written {
+    Size(u16),
+    TooLong,
+}
+
 // How many zero bytes a message's payloads are padded with.
 fn padding(size: usize) -> usize
     ensures { λ r. ⌜ r ≡ padding size ⌝ }
@@ -256,7 +262,7 @@ fn put_fitting(
     put_around(buffer, own, id, 36 + sa + rest) as u16
 }
 
-// Writes a message of the longer shape; says how long it is. Of a set or an identity over 4,096 bytes nothing is written.
+// Writes a message of the longer shape; says how long it is. A set or an identity over 4,096 bytes is too long.
 pub fn put_longer(
     buffer: &mut [u8],
     own: Own,
@@ -265,14 +271,14 @@ pub fn put_longer(
     set: &[u8],
     first: &[u8],
     second: &[u8],
-) -> u16
+) -> Written
     ensures { λ r. ⌜ longerInto (now (buffer .entry)) own id proposals (now (set .entry)) (now (first .entry)) (now (second .entry))
         ≡ (r, now (buffer .exit)) ⌝ }
 {
     if (4096 < set.len()) | (4096 < first.len()) | (4096 < second.len()) {
-        return 0;
+        return Written::TooLong;
     }
-    put_fitting(buffer, own, id, proposals, set, first, second)
+    Written::Size(put_fitting(buffer, own, id, proposals, set, first, second))
 }
 
 // Writes message 3.

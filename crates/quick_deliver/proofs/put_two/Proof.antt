@@ -1,4 +1,4 @@
-use Rattle.quick_deliver.proofs.Ways.{two-written}
+use Rattle.quick_deliver.proofs.Ways.{two-written, two-never}
 use borrow.Author.Needs.{needs}
 use Rattle.quick_deliver.proofs.put_two.Statement.{statement}
 use Rattle.quick_deliver.proofs.put_two.Tie as tie
@@ -11,5 +11,9 @@ put-two-spec =
     (λ c κs. search needs)
     (λ c κs. search needs)
     (λ c κs. search needs)
+    (λ c. search needs)
+    (λ c. search needs)
+    (λ c. search needs)
+    (λ c. search two-never)
     (λ c. search needs)
     (λ c. search two-written))
