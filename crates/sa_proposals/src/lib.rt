@@ -1,5 +1,5 @@
 // The body of an SA payload: proposals and their transforms, checked in reading order. A slice begins at a proposal, but for
-// `check`, which takes the body.
+// `offer_code`, which takes the body.
 use sa_transforms::transforms_code;
 use wire_read::after;
 use wire_read::be16;
