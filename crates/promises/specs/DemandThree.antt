@@ -1,6 +1,6 @@
 -- Demand three, sentence by sentence, over the exchange as crates/quick_exchange/specs/Exchange.antt has it: for every two ends that start
 -- fresh with the same cookies, every order of calls and every network. The one premise is `Fair` there.
-use Prim.Native.Nat.{ℕ}
+use Prim.Native.Nat.{ℕ, _≤_}
 use mathlib.Core.Path.{_≡_, ap, _∙_}
 use mathlib.Core.Logic.{_⊎_}
 use mathlib.Core.List.{[], _∷_}
@@ -10,11 +10,12 @@ use Rattle.quick_write.specs.Messages.{nonceOf}
 use Rattle.quick_shape.specs.Shapes.{nonce}
 use Rattle.quick_end.specs.declared.Role.the-variants.{Initiator, Responder}
 use Rattle.quick_end.specs.declared.State.the-variants.{Half, Open, GivenUp}
+use Rattle.quick_end.specs.declared.Own.{Own}
 use Rattle.quick_step.specs.declared.StepAnswer.the-variants.{Send, Refused}
-use Rattle.quick_exchange.specs.Exchange.{begin, called, World, atFirst, atSecond, step, Fair, Run, Fresh, stateOf, sentOf, gotOf, Same, Only, Then, Beginning, beginCall, afterBegin, Chooses, oneOf, twoOf, threeOf, Arrives, delivery}
-use Rattle.quick_exchange.proofs.Fresh.{fresh-fit}
+use Rattle.quick_exchange.specs.Exchange.{begin, called, World, atFirst, atSecond, step, Fair, Run, Fresh, stateOf, sentOf, gotOf, agreedOf, Same, Only, Then, Beginning, beginCall, afterBegin, Chooses, oneOf, twoOf, threeOf, Arrives, delivery, chosenSet, SameContent, GivenFor}
+use Rattle.quick_exchange.proofs.Fresh.{Holds, fresh-fit}
 use Rattle.quick_exchange.proofs.Moves.{begin-shut}
-use Rattle.quick_exchange.proofs.Safety.{always, open-both, same-both}
+use Rattle.quick_exchange.proofs.Safety.{always, open-both, same-both, content-both}
 use Rattle.quick_exchange.proofs.Liveness as liveness
 use Rattle.quick_exchange.proofs.Example.{reached}
 
@@ -34,6 +35,49 @@ module _ {w : World} (fresh : Fresh w) where
       Same (u .initiator) (u .responder) × ((stateOf (u .responder) ≡ Open) ⊎ (stateOf (u .responder) ≡ Half) ⊎ (stateOf (u .responder) ≡ GivenUp))
   same-at-both k q = same-both fresh k q
 
+  -- "the same proposal set, transforms", byte for byte: the initiator took from message two what the responder chose from its offer
+  pub same-content : {u : World} → Run w u → stateOf (u .initiator) ≡ Open → SameContent (u .initiator) (u .responder)
+  same-content k q = content-both fresh k q .0
+
+  -- what the two were given
+  first-holds : Holds Initiator (fresh .icookie) (fresh .rcookie) (fresh .first .ah) (fresh .first .esp) (fresh .first .nonce) (w .initiator .end)
+  first-holds = fresh-fit Initiator (fresh .icookie) (fresh .rcookie) (w .initiator .end) (fresh .icookie-fits) (fresh .rcookie-fits) (fresh .first)
+
+  second-holds : Holds Responder (fresh .icookie) (fresh .rcookie) (fresh .second .ah) (fresh .second .esp) (fresh .second .nonce) (w .responder .end)
+  second-holds = fresh-fit Responder (fresh .icookie) (fresh .rcookie) (w .responder .end) (fresh .icookie-fits) (fresh .rcookie-fits) (fresh .second)
+
+  -- the SPIs of both records are those that the two were given: the initiator's first, in its own record and in the responder's, then the
+  -- responder's
+  pub spis-given : {u : World} → Run w u → stateOf (u .initiator) ≡ Open →
+      GivenFor (fresh .first .ah) (fresh .first .esp) (chosenSet (u .responder)) (agreedOf (u .initiator) .initiator) ×
+      GivenFor (fresh .first .ah) (fresh .first .esp) (chosenSet (u .responder)) (agreedOf (u .responder) .initiator) ×
+      GivenFor (fresh .second .ah) (fresh .second .esp) (chosenSet (u .responder)) (agreedOf (u .initiator) .responder) ×
+      GivenFor (fresh .second .ah) (fresh .second .esp) (chosenSet (u .responder)) (agreedOf (u .responder) .responder)
+  spis-given {u} k q =
+      let same = same-both fresh k q .0 in
+      let own = liveness.own-run fresh k in
+      let given = content-both fresh k q in
+      let first-ah = ap (λ (o : Own). o .ah) (own .0) ∙ first-holds .its-ah in
+      let first-esp = ap (λ (o : Own). o .esp) (own .0) ∙ first-holds .its-esp in
+      let second-ah = ap (λ (o : Own). o .ah) (own .1) ∙ second-holds .its-ah in
+      let second-esp = ap (λ (o : Own). o .esp) (own .1) ∙ second-holds .its-esp in
+      let first = rw (first-ah, first-esp) at given .1 in
+      let second = rw (second-ah, second-esp) at given .2 in (
+        rw (← same .same-initiator) first,
+        first,
+        rw (← same .same-responder) second,
+        second,
+      )
+
+  -- and none of these is below 256, so that a record of zeros is none
+  pub spis-high : (256 ≤ fresh .first .ah) × (256 ≤ fresh .first .esp) × (256 ≤ fresh .second .ah) × (256 ≤ fresh .second .esp)
+  spis-high = (
+    rw (← first-holds .its-ah) (first-holds .fit .ah .0),
+    rw (← first-holds .its-esp) (first-holds .fit .esp .0),
+    rw (← second-holds .its-ah) (second-holds .fit .ah .0),
+    rw (← second-holds .its-esp) (second-holds .fit .esp .0),
+  )
+
   -- the nonces are those that the two were given
   pub nonces-given : {u : World} → Run w u → stateOf (u .initiator) ≡ Open →
       (nonce Initiator (gotOf (u .responder)) (sentOf (u .responder)) ≡ fresh .first .nonce) ×
@@ -41,9 +85,7 @@ module _ {w : World} (fresh : Fresh w) where
   nonces-given k q =
       let same = same-both fresh k q .0 in
       let own = liveness.own-run fresh k in
-      let one = fresh-fit Initiator (fresh .icookie) (fresh .rcookie) (w .initiator .end) (fresh .icookie-fits) (fresh .rcookie-fits) (fresh .first) in
-      let two = fresh-fit Responder (fresh .icookie) (fresh .rcookie) (w .responder .end) (fresh .icookie-fits) (fresh .rcookie-fits) (fresh .second) in
-      (same .initiator-nonce ∙ ap nonceOf (own .0) ∙ one .its-nonce, same .responder-own ∙ ap nonceOf (own .1) ∙ two .its-nonce)
+      (same .initiator-nonce ∙ ap nonceOf (own .0) ∙ first-holds .its-nonce, same .responder-own ∙ ap nonceOf (own .1) ∙ second-holds .its-nonce)
 
   -- "A begin that isn't refused writes message one": it answers with it, and it is the first that the initiator has written.
   pub begin-writes : (b : Beginning w) →

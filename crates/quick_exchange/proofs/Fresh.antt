@@ -53,17 +53,19 @@ module _ (role : Role) (icookie rcookie : ℕ) (book : List ℕ) (ah esp : ℕ) 
       )
 
 -- what a fresh end holds
-pub record Holds (role : Role) (icookie rcookie : ℕ) (nonce : List ℕ) (end : End) : Type 0 where
+pub record Holds (role : Role) (icookie rcookie ah esp : ℕ) (nonce : List ℕ) (end : End) : Type 0 where
   pub fit : Fit (end .own)
   pub its-role : end .own .role ≡ role
   pub its-icookie : end .own .icookie ≡ icookie
   pub its-rcookie : end .own .rcookie ≡ rcookie
+  pub its-ah : end .own .ah ≡ ah
+  pub its-esp : end .own .esp ≡ esp
   pub its-nonce : nonceOf (end .own) ≡ nonce
   pub is-idle : end .progress .state ≡ Idle
 
 pub fresh-fit : (role : Role) (icookie rcookie : ℕ) (end : End) → icookie < 18446744073709551616 → rcookie < 18446744073709551616 →
     (f : FreshEnd role icookie rcookie end) →
-    Holds role icookie rcookie (f .nonce) end
+    Holds role icookie rcookie (f .ah) (f .esp) (f .nonce) end
 unfolding fresh ownOf idle
 fresh-fit role icookie rcookie end ci cr f =
     let code : ℕ = freshCode icookie rcookie (f .book) (f .ah) (f .esp) (f .nonce) in
@@ -71,6 +73,6 @@ fresh-fit role icookie rcookie end ci cr f =
     by-test (eqb code 0)
     (λ z.
     let own = own-fit role icookie rcookie (f .book) (f .ah) (f .esp) (f .nonce) ci cr (f .ah-fits) (f .esp-fits) (eqb-true code 0 z) in
-    subst (λ (e : End). Holds role icookie rcookie (f .nonce) e) (ap (λ (m : Made). m .end) (rw z at made))
-    (record { fit = own .0; its-role = refl; its-icookie = refl; its-rcookie = refl; its-nonce = own .1; is-idle = refl }))
+    subst (λ (e : End). Holds role icookie rcookie (f .ah) (f .esp) (f .nonce) e) (ap (λ (m : Made). m .end) (rw z at made))
+    (record { fit = own .0; its-role = refl; its-icookie = refl; its-rcookie = refl; its-ah = refl; its-esp = refl; its-nonce = own .1; is-idle = refl }))
     (λ z. absurd (eqb-false code 0 z (ap (λ (m : Made). m .number) (rw z at made))))

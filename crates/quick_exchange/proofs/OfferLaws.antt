@@ -1,4 +1,4 @@
--- What begin offers is read back: one set per quick line of the book, in the book's order, each proposal with one transform.
+-- What begin offers is read back: one set per quick line of the book, in the book's order, each proposal with one transform and the own SPI.
 use Prim.Native.Nat.{ℕ, zero, suc, _+_, _-_, _*_, _/_, _%_, _≤_, _<_}
 use mathlib.Core.Path.{_≡_, refl, sym, ap, _∙_}
 use mathlib.Core.Logic.{_⊎_, inl, inr, ⊎-elim}
@@ -22,7 +22,7 @@ use Rattle.sa_proposals.specs.Proposals as proposals
 use Rattle.sa_proposals.proofs.Laws.{Item, Rising, end, on}
 use Rattle.sa_transforms.proofs.Laws.{LawfulTransform}
 use Rattle.sa_proposals.proofs.Written.{proposed, Keyed, keyed, Writes, alone-transforms, proposed-size, proposed-code, proposed-lawful, order-first, last-proposal, more-proposals}
-use Rattle.sa_fields.specs.Fields.{transformCount}
+use Rattle.sa_fields.specs.Fields.{protocol, spi, transformCount}
 use Rattle.wire_read.specs.Parts.{skip, parts}
 use Rattle.sa_items.specs.Items.{firstItem, proposal, proposalCount, transform}
 use Rattle.sa_sets.specs.Sets.{setEnd, firstSet, afterSet, set, setCount}
@@ -89,9 +89,9 @@ module _ (id : ℕ) (list : List ℕ) where
 -- ---- a proposal of one transform
 
 -- p is such a proposal, with exchange 32 and at most 36 bytes
-data Single (next number protocol : ℕ) : List ℕ → Type 0 where
-  single : {high low : ℕ} {spi t : List ℕ} → Writes 32 next high low protocol spi t → length (spi ++ t) ≤ 28 →
-      Single next number protocol (proposed next high low number protocol spi t)
+data Single (next number protocol : ℕ) (spi : List ℕ) : List ℕ → Type 0 where
+  single : {high low : ℕ} {t : List ℕ} → Writes 32 next high low protocol spi t → length (spi ++ t) ≤ 28 →
+      Single next number protocol spi (proposed next high low number protocol spi t)
 
 -- the proposal that is written anew around transform 1
 module _ (next number protocol id : ℕ) (spi list : List ℕ) where
@@ -104,7 +104,7 @@ module _ (next number protocol id : ℕ) (spi list : List ℕ) where
   is-proposed = refl
 
   written-single : (next ≡ 0) ⊎ (next ≡ 2) → protocolWrong 32 protocol ≡ false → Keyed 32 spi → length spi ≡ 4 → attributesCode 32 list ≡ 0 → length list ≤ 16 →
-      Single next number protocol (proposalOf next number protocol spi (the-transform id list))
+      Single next number protocol spi (proposalOf next number protocol spi (the-transform id list))
   written-single follows known key four lawful short =
       let few : length (spi ++ the-transform id list) ≤ 28 = omega (arith, length-append spi (the-transform id list), transform-length id list) in
       let w : Writes 32 next (size / 256 % 256) (size % 256) protocol spi (the-transform id list) =
@@ -124,30 +124,52 @@ proposed-item next high low number protocol spi t w =
     let p : List ℕ = proposed next high low number protocol spi t in
     proposed-lawful 32 next high low number protocol spi t w [] 0 proposals.none (order-first (p ++ []))
 
--- "one transform each", and no other is announced behind it
-abbrev Alone : List ℕ → Type 0
-Alone p = (transformCount p ≡ 1) × (getD (transform 0 p) 0 0 ≡ 0)
+-- a proposal of the offer: "one transform each", no other announced behind it, and the own SPI
+pub record Offers (ah esp : ℕ) (p : List ℕ) : Type 0 where
+  pub one-transform : transformCount p ≡ 1
+  pub last : getD (transform 0 p) 0 0 ≡ 0
+  pub own-spi : spi p ≡ ownSpi ah esp (protocol p)
 
-alone-at : (p : List ℕ) (ps : List (List ℕ)) → Alone p → ((j : ℕ) → j < length ps → Alone (getD ps j [])) → (j : ℕ) → j < length (p ∷ ps) →
-    Alone (getD (p ∷ ps) j [])
-alone-at p ps first others zero h = first
-alone-at p ps first others (suc j) h = others j (omega arith)
+-- a set of the offer: ESP alone, or "AH before ESP"
+pub data OfferedSet (ah esp : ℕ) (s : List ℕ) : Type 0 where
+  esp-alone : proposalCount s ≡ 1 → protocol (proposal 0 s) ≡ 3 → Offers ah esp (proposal 0 s) → OfferedSet ah esp s
+  ah-and-esp : proposalCount s ≡ 2 → protocol (proposal 0 s) ≡ 2 → protocol (proposal 1 s) ≡ 3 → Offers ah esp (proposal 0 s) →
+      Offers ah esp (proposal 1 s) → OfferedSet ah esp s
 
--- what such a proposal has
-module _ {next number protocol : ℕ} where
-  single-item : {p : List ℕ} → Single next number protocol p → Item 32 p
-  single-item (single {high} {low} {spi} {t} w few) = proposed-item next high low number protocol spi t w
+module _ {ah esp : ℕ} {s : List ℕ} where
+  pub offers-each : OfferedSet ah esp s → (j : ℕ) → j < proposalCount s → Offers ah esp (proposal j s)
+  offers-each (esp-alone one is o) zero h = o
+  offers-each (esp-alone one is o) (suc j) h = absurd (omega arith)
+  offers-each (ah-and-esp two is other o p) zero h = o
+  offers-each (ah-and-esp two is other o p) (suc zero) h = p
+  offers-each (ah-and-esp two is other o p) (suc (suc j)) h = absurd (omega arith)
 
-  single-number : {p : List ℕ} → Single next number protocol p → getD p 4 0 ≡ number
+  pub one-or-two : OfferedSet ah esp s → (proposalCount s ≡ 1) ⊎ (proposalCount s ≡ 2)
+  one-or-two (esp-alone one is o) = inl one
+  one-or-two (ah-and-esp two is other o p) = inr two
+
+-- what a proposal of one transform has
+module _ {next number wanted : ℕ} {key : List ℕ} where
+  single-item : {p : List ℕ} → Single next number wanted key p → Item 32 p
+  single-item (single {high} {low} {t} w few) = proposed-item next high low number wanted key t w
+
+  single-number : {p : List ℕ} → Single next number wanted key p → getD p 4 0 ≡ number
   single-number (single w few) = refl
 
-  single-short : {p : List ℕ} → Single next number protocol p → length p ≤ 36
+  single-short : {p : List ℕ} → Single next number wanted key p → length p ≤ 36
   single-short (single w few) = omega arith
 
-  single-alone : {p : List ℕ} → Single next number protocol p → Alone p
-  unfolding transformCount transform skip firstItem
-  single-alone (single {high} {low} {spi} {t} w few) =
-      (refl, rw (alone-transforms 32 next high low number protocol spi t w, w .lawful .lies, take-length t) (w .last))
+  single-protocol : {p : List ℕ} → Single next number wanted key p → protocol p ≡ wanted
+  unfolding protocol
+  single-protocol (single w few) = refl
+
+  single-offers : (ah esp : ℕ) → key ≡ ownSpi ah esp wanted → {p : List ℕ} → Single next number wanted key p → Offers ah esp p
+  unfolding transformCount transform skip firstItem protocol spi
+  single-offers ah esp own (single {high} {low} {t} w few) = record {
+    one-transform = refl;
+    last = rw (alone-transforms 32 next high low number wanted key t w, w .lawful .lies, take-length t) (w .last);
+    own-spi = take-append-seam key t ∙ own;
+  }
 
 -- ---- proposals one after the other
 
@@ -160,18 +182,19 @@ module _ (next high low number protocol : ℕ) (spi t : List ℕ) (w : Writes 32
       let ordered : orderWrong previous set (proposed next high low number protocol spi t ++ rest) ≡ false = rw (le-ltb number previous low-enough) new in
       proposed-code 32 next high low number protocol spi t w rest previous set ordered
 
-module _ {number protocol : ℕ} (left previous : ℕ) (set : _) (low-enough : previous ≤ number) (new : has (setBefore previous set number) protocol ≡ false) where
-  last-reads : {p : List ℕ} → Single 0 number protocol p → proposalsCode (suc left) 32 previous set p ≡ 0
-  last-reads (single {high} {low} {spi} {t} w few) =
+module _ {number protocol : ℕ} {spi : List ℕ} (left previous : ℕ) (set : _) (low-enough : previous ≤ number)
+    (new : has (setBefore previous set number) protocol ≡ false) where
+  last-reads : {p : List ℕ} → Single 0 number protocol spi p → proposalsCode (suc left) 32 previous set p ≡ 0
+  last-reads (single {high} {low} {t} w few) =
       let p : List ℕ = proposed 0 high low number protocol spi t in
       let fine : proposalCode 32 previous set (p ++ []) ≡ 0 = code 0 high low number protocol spi t w [] previous set low-enough new in
       let none : length (drop (numberAt 2 p 2) p) ≡ 0 = rw (proposed-item 0 high low number protocol spi t w .lies) (ap length (drop-length p)) in
       last-proposal left 32 previous set p (rw (append-nil p) at fine) refl none
 
-  more-read : {p : List ℕ} → Single 2 number protocol p → (rest : List ℕ) →
+  more-read : {p : List ℕ} → Single 2 number protocol spi p → (rest : List ℕ) →
       proposalsCode left 32 number (with (setBefore previous set number) protocol) rest ≡ 0 →
       proposalsCode (suc left) 32 previous set (p ++ rest) ≡ 0
-  more-read (single {high} {low} {spi} {t} w few) rest reads =
+  more-read (single {high} {low} {t} w few) rest reads =
       let p : List ℕ = proposed 2 high low number protocol spi t in
       let behind-it : drop (numberAt 2 (p ++ rest) 2) (p ++ rest) ≡ rest =
       rw (proposed-size 32 2 high low number protocol spi t w rest) (drop-append-seam p rest) in
@@ -240,14 +263,14 @@ module _ (ah esp : ℕ) (book : List ℕ) (right-ah : (256 ≤ ah) × (ah < 4294
   spi-keyed spi right = keyed {spi = bytesOf 4 spi} (length-bytesOf 4 spi) (omega (arith, number-bytesOf 4 spi (omega arith)))
 
   module _ (next : ℕ) (follows : (next ≡ 0) ⊎ (next ≡ 2)) (i : ℕ) where
-    ah-single : Single next (i + 1) 2 (lineProposal ah esp next 2 i book)
+    ah-single : Single next (i + 1) 2 (bytesOf 4 ah) (lineProposal ah esp next 2 i book)
     unfolding lineProposal transformOne ownSpi protocolWrong
     ah-single =
         let right = attributes-right 2 i book in
         written-single next (i + 1) 2 (quickId 2) (bytesOf 4 ah) (attributes 2 i book) follows refl (spi-keyed ah right-ah) (length-bytesOf 4 ah) (right .0)
         (right .1)
 
-    esp-single : Single next (i + 1) 3 (lineProposal ah esp next 3 i book)
+    esp-single : Single next (i + 1) 3 (bytesOf 4 esp) (lineProposal ah esp next 3 i book)
     unfolding lineProposal transformOne ownSpi protocolWrong
     esp-single =
         let right = attributes-right 3 i book in
@@ -294,19 +317,23 @@ module _ (ah esp : ℕ) (book : List ℕ) (right-ah : (256 ≤ ah) × (ah < 4294
         let esp-same : Same (i + 1) (lineProposal ah esp next 3 i book ∷ []) = same-on (single-number (esp-single next follows i)) same-end in
         by-test (eqb (quickProtocols i book) 1) (λ e. rw e esp-same) (λ e. rw e (same-on (single-number (ah-single 2 (inr refl) i)) esp-same))
 
-    line-alone : (j : ℕ) → j < length (line-items next i) → Alone (getD (line-items next i) j [])
-    unfolding line-items
-    line-alone =
-        let last = alone-at (lineProposal ah esp next 3 i book) [] (single-alone (esp-single next follows i)) (λ j h. absurd (omega arith)) in
-        let all = alone-at (lineProposal ah esp 2 2 i book) (lineProposal ah esp next 3 i book ∷ []) (single-alone (ah-single 2 (inr refl) i)) last in
-        by-test (eqb (quickProtocols i book) 1) (λ e. rw e last) (λ e. rw e all)
-
-    line-each : (j : ℕ) → j < proposalCount (lineSet ah esp next i book) → Alone (proposal j (lineSet ah esp next i book))
-    line-each j h =
-        let few : length (line-items next i) ≤ 16 = omega (arith, line-few next i .1) in
-        let count : proposalCount (lineSet ah esp next i book) ≡ length (line-items next i) = rw (← line-whole next i) (proposals-count line-rising few) in
-        let within : j < length (line-items next i) = omega arith in
-        rw (← line-whole next i, proposals-place line-rising j within) (line-alone j within)
+    line-offers : OfferedSet ah esp (lineSet ah esp next i book)
+    unfolding line-items ownSpi
+    line-offers =
+        let first = ah-single 2 (inr refl) i in
+        let last = esp-single next follows i in
+        let whole = line-whole next i in
+        by-test (eqb (quickProtocols i book) 1)
+        (λ e.
+        let place = proposals-place esp-rising 0 (omega arith) in
+        rw (← (rw e at whole))
+        (esp-alone (proposals-count esp-rising (omega arith)) (rw place (single-protocol last)) (rw place (single-offers ah esp refl last))))
+        (λ e.
+        let place = proposals-place both-rising 0 (omega arith) in
+        let place-two = proposals-place both-rising 1 (omega arith) in
+        rw (← (rw e at whole))
+        (ah-and-esp (proposals-count both-rising (omega arith)) (rw place (single-protocol first)) (rw place-two (single-protocol last))
+        (rw place (single-offers ah esp refl first)) (rw place-two (single-offers ah esp refl last))))
 
     line-short : length (lineSet ah esp next i book) ≤ 72
     unfolding lineSet
@@ -440,7 +467,7 @@ module _ (ah esp : ℕ) (book : List ℕ) (right-ah : (256 ≤ ah) × (ah < 4294
 
 -- ---- the offer
 
-body-sets : (proposals : List ℕ) → drop 8 (saBody proposals) ≡ proposals
+pub body-sets : (proposals : List ℕ) → drop 8 (saBody proposals) ≡ proposals
 unfolding bytesOf
 body-sets proposals = refl
 
@@ -475,9 +502,7 @@ offer-set own fit k h =
     let placed = lines-place (own .ah) (own .esp) (bookOf own) (fit .ah) (fit .esp) (lines (bookOf own)) 0 k h in
     rw (body-sets (lineSets (lines (bookOf own)) 0 (own .ah) (own .esp) (bookOf own))) (rw here at placed)
 
-pub offer-transform : (own : Own) → Fit own → (k j : ℕ) → k < lines (bookOf own) → j < proposalCount (set k (saBody (offerOf own))) →
-    (transformCount (proposal j (set k (saBody (offerOf own)))) ≡ 1) × (getD (transform 0 (proposal j (set k (saBody (offerOf own))))) 0 0 ≡ 0)
-offer-transform own fit k j h some =
+pub offer-line : (own : Own) → Fit own → (k : ℕ) → k < lines (bookOf own) → OfferedSet (own .ah) (own .esp) (set k (saBody (offerOf own)))
+offer-line own fit k h =
     let next : ℕ = nextSet (lines (bookOf own) - k) in
-    let within = rw (offer-set own fit k h) at some in
-    rw (offer-set own fit k h) (line-each (own .ah) (own .esp) (bookOf own) (fit .ah) (fit .esp) next (next-set (lines (bookOf own) - k)) k j within)
+    rw (offer-set own fit k h) (line-offers (own .ah) (own .esp) (bookOf own) (fit .ah) (fit .esp) next (next-set (lines (bookOf own) - k)) k)

@@ -4,11 +4,11 @@ use mathlib.Core.Path.{_≡_, refl, sym, ap, subst, _∙_}
 use mathlib.Core.Logic.{_⊎_, inl, inr}
 use mathlib.Core.List.{List, [], _∷_}
 use mathlib.Core.Bool.{true, false}
-use lib.ListN.{length}
+use lib.ListN.{length, drop}
 use Rattle.wire_write.specs.Put.{paste}
 use Rattle.wire_read.proofs.Tests.{never, clash}
 use Rattle.wire_write.proofs.Laws.{length-paste}
-use Rattle.sa_sets.specs.Sets.{setNumbered}
+use Rattle.sa_sets.specs.Sets.{set, setCount, setNumbered}
 use Rattle.policy_choice.specs.Choice.{bodyAt}
 use Rattle.policy_reply.specs.Reply.{setReply}
 use Rattle.quick_write.specs.Messages.{nonceOf, offerOf, messageThree}
@@ -27,8 +27,9 @@ use Rattle.quick_end.specs.declared.Agreed.{Agreed}
 use Rattle.quick_end.specs.declared.Progress.{Progress}
 use Rattle.quick_exchange.proofs.MessageShapes.{Fit, Longer, Third, Answered, replyTo}
 use Rattle.quick_exchange.proofs.MessageLaws.{third-reads}
-use Rattle.quick_exchange.proofs.TakenLaws.{one-reads, two-reads, two-agreed, two-taken}
-use Rattle.quick_exchange.specs.Exchange.{Party, left, logged, World, Event, atFirst, atSecond, step, Heard, here, there, Fair, Run, rest, goes, Fresh, stateOf, sentOf, gotOf, agreedOf, Same, FullSize, Chooses, Only, one, more, Then, turn, next}
+use Rattle.quick_exchange.proofs.OfferLaws.{body-sets}
+use Rattle.quick_exchange.proofs.TakenLaws.{one-reads, two-reads, two-agreed, two-taken, two-content, two-spis}
+use Rattle.quick_exchange.specs.Exchange.{Party, left, logged, World, Event, atFirst, atSecond, step, Heard, here, there, Fair, Run, rest, goes, Fresh, stateOf, sentOf, gotOf, agreedOf, Same, FullSize, Chooses, chosenSet, SameProposals, SameContent, GivenFor, Only, one, more, Then, turn, next}
 use Rattle.quick_exchange.proofs.Fresh.{fresh-fit}
 use Rattle.quick_exchange.proofs.Moves.{asking, answering, past, answering-past, Ask, offered, begins-with, answers-with, in-front, keeps-it, in-front-again, MoveI, MoveR, moves-first, moves-second, own-first, own-second}
 
@@ -182,8 +183,15 @@ module _ {one two : Own} (pair : Pair one two) (a : Ask one) (g : List ℕ) (fro
     pub two-agrees : agreedTwo (offered a) m ≡ agreement two g s
     two-agrees = two-agreed one two (a .id) (a .first) (a .second) g (s .number) (s .line) (s .transforms) its-answer m is
 
+    pub two-same : (setCount (bodyAt 1 m) ≡ 1) × SameProposals (s .transforms) (set 0 (bodyAt 1 m)) (setNumbered (s .number) (bodyAt 1 g))
+    two-same = two-content one two (a .id) (a .first) (a .second) g (s .number) (s .line) (s .transforms) its-answer m is
+
     pub two-takes : takenCode (shapeOf m) (offered a) m ≡ 0
     two-takes = two-taken one two (a .id) (a .first) (a .second) g (s .number) (s .line) (s .transforms) its-answer m is
+
+  pub given-spis : GivenFor (one .ah) (one .esp) (setNumbered (s .number) (bodyAt 1 g)) (agreement two g s .initiator) ×
+      GivenFor (two .ah) (two .esp) (setNumbered (s .number) (bodyAt 1 g)) (agreement two g s .responder)
+  given-spis = two-spis one two (a .id) (a .first) (a .second) g (s .number) (s .line) (s .transforms) its-answer
 
   pub two-short : length (replyOf two g s) ≤ 2048
   two-short = two-read (replyOf two g s) (alike-same (replyOf two g s)) .framed .short
@@ -399,6 +407,36 @@ same-of {i} {r} {fi} {fr} pair (done a ei k o R er ev eg) q =
 pub same-both : {w u : World} → Fresh w → Run w u → stateOf (u .initiator) ≡ Open →
     Same (u .initiator) (u .responder) × ((stateOf (u .responder) ≡ Open) ⊎ (stateOf (u .responder) ≡ Half) ⊎ (stateOf (u .responder) ≡ GivenUp))
 same-both f k q = let v = always f k in same-of (v .pair) (v .stage) q
+
+-- ---- the same content, and the SPIs as they were given
+
+content-of : {i r : Party} {fi fr : List (List ℕ)} → Pair (i .end .own) (r .end .own) → Stage i r fi fr → stateOf i ≡ Open →
+    SameContent i r × GivenFor (i .end .own .ah) (i .end .own .esp) (chosenSet r) (agreedOf r .initiator) ×
+    GivenFor (r .end .own .ah) (r .end .own .esp) (chosenSet r) (agreedOf r .responder)
+content-of pair (new ei er ni nr) q = never (cc)
+content-of pair (asked a ei k o er nr) q = clash (cc)
+content-of pair (half a ei k o R er) q = clash (cc)
+content-of {i} {r} {fi} {fr} pair (done a ei k o R er ev eg) q =
+    let same = two-same pair a (gotOf r) (R .from) (R .chooses) (gotOf i) (rw (R .keeps .its-sent) at eg) in
+    let given = given-spis pair a (gotOf r) (R .from) (R .chooses) in (
+      record {
+        message-one = ap (drop 8) (one-read (pair .fit-one) a (gotOf r) (R .from) .sa) ∙ body-sets (offerOf (i .end .own));
+        chooses = R .chooses;
+        chosen-set = ap (λ (x : Agreed). x .set) (R .its-agreed);
+        chosen-transforms = ap (λ (x : Agreed). x .transforms) (R .its-agreed);
+        message-two = eg;
+        one-set = same .0;
+        proposals = rw (R .its-agreed) (same .1);
+      },
+      rw (R .its-agreed) (given .0),
+      rw (R .its-agreed) (given .1),
+    )
+
+pub content-both : {w u : World} → Fresh w → Run w u → stateOf (u .initiator) ≡ Open →
+    SameContent (u .initiator) (u .responder) ×
+    GivenFor (u .initiator .end .own .ah) (u .initiator .end .own .esp) (chosenSet (u .responder)) (agreedOf (u .responder) .initiator) ×
+    GivenFor (u .responder .end .own .ah) (u .responder .end .own .esp) (chosenSet (u .responder)) (agreedOf (u .responder) .responder)
+content-both f k q = let v = always f k in content-of (v .pair) (v .stage) q
 
 -- an Idle initiator has written nothing
 silent-of : {i r : Party} {fi fr : List (List ℕ)} → Stage i r fi fr → stateOf i ≡ Idle → fi ≡ []

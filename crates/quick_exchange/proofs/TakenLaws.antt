@@ -1,8 +1,8 @@
 -- What the ends take of each other's messages: message 1 as it is delivered, the answer that the responder writes to it, and that the
 -- initiator takes this answer. "one set, its number, protocols, order and each transform as offered", "identities equal those sent".
 use Prim.Native.Nat.{ℕ, _+_, _-_, _≤_, _<_}
-use mathlib.Core.Path.{_≡_, refl, sym, ap, _∙_}
-use mathlib.Core.Logic.{_⊎_, inl, inr, ⊎-elim}
+use mathlib.Core.Path.{_≡_, refl, sym, ap, subst, _∙_}
+use mathlib.Core.Logic.{_⊎_, ⊎-elim}
 use mathlib.Core.List.{List, _∷_}
 use mathlib.Core.Bool.{true, false, not, or-true}
 use native.Mathlib.Omega.{arith}
@@ -18,7 +18,7 @@ use Rattle.wire_write.proofs.Laws.{number-bytesOf, length-bytesOf}
 use Rattle.sa_proposals.specs.Proposals.{proposalsCode, offerCode}
 use Rattle.sa_proposals.specs.Proposals as proposals
 use Rattle.sa_proposals.proofs.Written.{offer-right}
-use Rattle.sa_fields.specs.Fields.{proposalNumber, protocol, spi, transformCount}
+use Rattle.sa_fields.specs.Fields.{proposalNumber, protocol, spi, transformCount, transformNumber}
 use Rattle.sa_sets.specs.Sets.{set, setCount, setNumbered}
 use Rattle.sa_items.specs.Items.{proposal, proposalCount, transform}
 use Rattle.sa_fields.specs.declared.ProposalNumber.{ProposalNumber}
@@ -35,7 +35,8 @@ use Rattle.policy_choice.specs.declared.Choice.the-variants.{Chosen}
 use Rattle.policy_suits.specs.Suiting.{Suits}
 use Rattle.policy_suits.proofs.Laws.{suits-says}
 use Rattle.policy_choice.proofs.Laws.{Choosing, fourteen, chose, choosing}
-use Rattle.policy_suits.proofs.SuitLaws.{Known, isakmp, ah-of, esp-of, known-of, chosenIn, taken, shape}
+use Rattle.policy_choice.proofs.ChoiceLaws.{taken-by-number}
+use Rattle.policy_suits.proofs.SuitLaws.{Known, isakmp, ah-of, esp-of, known-of, chosenIn, taken}
 use Rattle.policy_reply.proofs.ReplyLaws.{Repeats, reply-repeats, reply-short}
 use Rattle.quick_write.specs.Messages.{bookOf, offerOf, proposalsOf, longer, messageOne, messageTwo, lines}
 use Rattle.quick_shape.specs.Shapes.{alike, shapeOf}
@@ -44,9 +45,10 @@ use Rattle.quick_agreed.specs.Agreed.{spisOf, transformsIn, spiFor, ownSpis}
 use Rattle.quick_deliver.specs.Deliver.{identityAt}
 use Rattle.quick_end.specs.declared.Own.{Own}
 use Rattle.quick_shape.proofs.Laws.{alike-same}
+use Rattle.quick_exchange.specs.Exchange.{SameProposal, SameProposals, GivenFor, alone, both}
 use Rattle.quick_exchange.proofs.MessageShapes.{payloadsWith, saBody, Longer, Answered, replyTo, Fit, Identities}
 use Rattle.quick_exchange.proofs.MessageLaws.{longer-reads}
-use Rattle.quick_exchange.proofs.OfferLaws.{offer-reads, offer-short, offer-count, offer-transform}
+use Rattle.quick_exchange.proofs.OfferLaws.{Offers, OfferedSet, body-sets, esp-alone, ah-and-esp, offers-each, one-or-two, offer-reads, offer-short, offer-count, offer-line}
 
 -- ---- the body of an SA payload
 
@@ -54,10 +56,6 @@ module _ (ps : List ℕ) where
   sa-body : (next : ℕ) → drop 4 (saOf next ps) ≡ saBody ps
   unfolding saOf headed head bytesOf
   sa-body next = refl
-
-  behind-sa : drop 8 (saBody ps) ≡ ps
-  unfolding bytesOf
-  behind-sa = refl
 
   sa-long : 8 ≤ length (saBody ps)
   unfolding bytesOf
@@ -79,7 +77,7 @@ module _ (ps : List ℕ) where
       let long = passed (ltb (length s) 8) 15 _ (λ z. omega arith) h in
       let doi = passed (not (eqb (numberAt 4 s 0) 1)) 2 _ (λ z. omega arith) (long .1) in
       let situation = passed (not (eqb (numberAt 4 s 4) 1)) 3 _ (λ z. omega arith) (doi .1) in
-      rw behind-sa at situation .1
+      rw (body-sets ps) at situation .1
 
 -- ---- a choice from a body that reads
 
@@ -165,6 +163,20 @@ proposal-taken : (ah esp : ℕ) (p q : List ℕ) → Taken ah esp p q → propos
 unfolding proposalTaken
 proposal-taken ah esp p q t = rw (t .same-protocol, t .one-transform, t .same-transform, eq-eqb (protocol p) (protocol p) refl, equal-same (transform 0 p))
 
+-- a set with the own SPI in each proposal, for the protocols of set s
+own-spis : (ah esp : ℕ) (s r : List ℕ) → proposalCount r ≡ proposalCount s → (proposalCount s ≡ 1) ⊎ (proposalCount s ≡ 2) →
+    ((j : ℕ) → j < proposalCount s → numberAt 4 (proposal j r) 8 ≡ spiFor ah esp (protocol (proposal j s))) →
+    spisOf r ≡ ownSpis ah esp s
+unfolding spisOf ownSpis
+own-spis ah esp s r as-many few each =
+    ⊎-elim (λ e. rw (as-many, e, each 0 (omega arith))) (λ e. rw (as-many, e, each 0 (omega arith), each 1 (omega arith))) few
+
+-- so they are those that were given, where the set is one of the offer
+given-for : {a b : ℕ} {s : List ℕ} → OfferedSet a b s → (ah esp : ℕ) → GivenFor ah esp s (ownSpis ah esp s)
+unfolding ownSpis spiFor
+given-for (esp-alone one is o) ah esp = rw (one, is) (alone one is)
+given-for (ah-and-esp two is other o p) ah esp = rw (two, is, other) (both two is other)
+
 module _ (ah esp : ℕ) (s r : List ℕ) (as-many : proposalCount r ≡ proposalCount s) (few : (proposalCount s ≡ 1) ⊎ (proposalCount s ≡ 2))
     (each : (j : ℕ) → j < proposalCount s → Taken ah esp (proposal j s) (proposal j r)) where
   set-taken : setTaken r s ≡ true
@@ -175,14 +187,6 @@ module _ (ah esp : ℕ) (s r : List ℕ) (as-many : proposalCount r ≡ proposal
       (λ e. rw (first, as-many, eq-eqb (proposalCount s) (proposalCount s) refl, eq-eqb (proposalCount s) 1 e))
       (λ e. rw (first, as-many, eq-eqb (proposalCount s) (proposalCount s) refl, proposal-taken ah esp _ _ (each 1 (omega arith)))
       (or-true (eqb (proposalCount s) 1)))
-      few
-
-  own-spis : spisOf r ≡ ownSpis ah esp s
-  unfolding spisOf ownSpis
-  own-spis =
-      ⊎-elim
-      (λ e. rw (as-many, e, each 0 (omega arith) .own-spi))
-      (λ e. rw (as-many, e, each 0 (omega arith) .own-spi, each 1 (omega arith) .own-spi))
       few
 
   -- the transforms are those that the choice named
@@ -281,16 +285,21 @@ module _ (one two : Own) (id : ℕ) (first second g : List ℕ) (number : Propos
       (answered .fit-two .esp .1) low 0 in
       omega (arith, sa-length ps, ap (λ (l : List ℕ). length (saOf 0 l)) same-reply)
 
+  from-offer : OfferedSet (one .ah) (one .esp) s
+  from-offer = offer-line one (answered .fit-one) (choice .k) (omega (arith, choice .a-set, offer-count one (answered .fit-one) (answered .some)))
+
   few : (proposalCount s ≡ 1) ⊎ (proposalCount s ≡ 2)
-  few = ⊎-elim (λ e. inl e) (λ p. inr (p .two)) (shape s 32 (choice .i) (bookOf two) (choice .suits .protocols))
+  few = one-or-two from-offer
 
   -- "each transform as offered": an offered proposal has one transform, so that it is the chosen one
   module _ (j : ℕ) (h : j < proposalCount s) where
-    offered : (transformCount (proposal j s) ≡ 1) × (getD (transform 0 (proposal j s)) 0 0 ≡ 0)
-    offered = offer-transform one (answered .fit-one) (choice .k) j (omega (arith, choice .a-set, offer-count one (answered .fit-one) (answered .some))) h
+    offered : Offers (one .ah) (one .esp) (proposal j s)
+    offered = offers-each from-offer j h
 
     first-place : lowest 32 (choice .i) (bookOf two) (proposal j s) - 1 ≡ 0
-    first-place = omega (arith, offered .0, taken 32 (choice .i) (bookOf two) (proposal j s) (choice .lawful .lawful j h) (choice .suits .each j h) .0)
+    first-place =
+        let some = taken 32 (choice .i) (bookOf two) (proposal j s) (choice .lawful .lawful j h) (choice .suits .each j h) in
+        omega (arith, offered .one-transform, some .0)
 
     proposal-answers : Taken (two .ah) (two .esp) (proposal j s) (proposal j (set 0 reply))
     unfolding protocol
@@ -298,14 +307,50 @@ module _ (one two : Own) (id : ℕ) (first second g : List ℕ) (number : Propos
         let p : List ℕ = proposal j s in
         let item = choice .lawful .lawful j h in
         let a = repeats .each j h in
-        let long = transform-lawful 32 p item 0 (omega (arith, offered .0)) .long in
+        let long = transform-lawful 32 p item 0 (omega (arith, offered .one-transform)) .long in
+        let whole = same-bytes (transform 0 p) (omega arith) (offered .last) in
         record {
           same-protocol = a .same-protocol;
           one-transform = a .one-transform;
-          same-transform = a .same-transform ∙ ap (λ (k : ℕ). 0 ∷ drop 1 (transform k p)) first-place ∙ same-bytes (transform 0 p) (omega arith) (offered .1);
+          same-transform = a .same-transform ∙ ap (λ (k : ℕ). 0 ∷ drop 1 (transform k p)) first-place ∙ whole;
           own-spi = own-number (known-of 32 (getD p 5 0) (item .known)) refl (two .ah) (two .esp) (answered .fit-two .ah .1) (answered .fit-two .esp .1)
               (proposal j (set 0 reply)) (a .own-spi);
         }
+
+    offered-spi : numberAt 4 (proposal j s) 8 ≡ spiFor (one .ah) (one .esp) (protocol (proposal j s))
+    unfolding protocol
+    offered-spi =
+        let p : List ℕ = proposal j s in
+        own-number (known-of 32 (getD p 5 0) (choice .lawful .lawful j h .known)) refl (one .ah) (one .esp) (answered .fit-one .ah .1)
+        (answered .fit-one .esp .1) p (offered .own-spi)
+
+    -- its chosen transform is the one of the number that the choice has for it
+    same-proposal : SameProposal (numberOf (lowest 32 (choice .i) (bookOf two) (proposal j s)) (proposal j s)) (proposal j (set 0 reply)) (proposal j s)
+    unfolding numberOf
+    same-proposal =
+        let p : List ℕ = proposal j s in
+        let same = proposal-answers .same-transform in
+        let place = ap (λ (k : ℕ). transform k p) first-place in
+        let by-its-number = taken-by-number 32 (choice .i) (bookOf two) p (choice .lawful .lawful j h) (choice .suits .each j h) in
+        record {
+          same-number = repeats .each j h .same-number;
+          same-protocol = proposal-answers .same-protocol;
+          one-transform = proposal-answers .one-transform;
+          its-number = ap transformNumber (same ∙ sym place);
+          same-transform = same ∙ sym place ∙ sym by-its-number;
+        }
+
+  same-proposals : SameProposals transforms (set 0 reply) s
+  unfolding transformsOf
+  same-proposals =
+      subst (λ (t : Transforms). SameProposals t (set 0 reply) s) (sym (choice .taken))
+      (⊎-elim
+      (λ e. rw e (repeats .as-many ∙ e, e, same-proposal 0 (omega arith)))
+      (λ e. rw e (repeats .as-many ∙ e, e, same-proposal 0 (omega arith), same-proposal 1 (omega arith)))
+      few)
+
+  spis-of-offer : spisOf s ≡ ownSpis (one .ah) (one .esp) s
+  spis-of-offer = own-spis (one .ah) (one .esp) s s refl few offered-spi
 
   reply-number : proposalNumber (proposal 0 (set 0 reply)) ≡ number
   reply-number = repeats .each 0 (choice .lawful .some) .same-number ∙ choice .its-number
@@ -345,7 +390,7 @@ module _ (one two : Own) (id : ℕ) (first second g : List ℕ) (number : Propos
         same-transforms (two .ah) (two .esp) s (set 0 reply) (repeats .as-many) few proposal-answers (choice .i) (bookOf two) first-place
         ∙ sym (choice .taken) in
         let spis-are : spisOf (set 0 reply) ≡ ownSpis (two .ah) (two .esp) s =
-        own-spis (two .ah) (two .esp) s (set 0 reply) (repeats .as-many) few proposal-answers in
+        own-spis (two .ah) (two .esp) s (set 0 reply) (repeats .as-many) few (λ j h. proposal-answers j h .own-spi) in
         rw (replied-is, offered-is, reply-number, transforms-are, spis-are)
 
 pub two-reads : (one two : Own) (id : ℕ) (first second g : List ℕ) (number : ProposalNumber) (line : LineNumber) (transforms : Transforms) →
@@ -370,3 +415,21 @@ pub two-agreed : (one two : Own) (id : ℕ) (first second g : List ℕ) (number 
     }
 two-agreed one two id first second g number line transforms answered n from =
     rw (by-number one two id first second g number line transforms answered) (answer-agreed one two id first second g number line transforms answered n from)
+
+-- what message 2 takes is what was chosen, byte for byte
+pub two-content : (one two : Own) (id : ℕ) (first second g : List ℕ) (number : ProposalNumber) (line : LineNumber) (transforms : Transforms) →
+    Answered one two id first second g number line transforms → (n : List ℕ) → alike n (replyTo two g number transforms) ≡ true →
+    (setCount (bodyAt 1 n) ≡ 1) × SameProposals transforms (set 0 (bodyAt 1 n)) (setNumbered number (bodyAt 1 g))
+two-content one two id first second g number line transforms answered n from =
+    rw (by-number one two id first second g number line transforms answered, answer one two id first second g number line transforms answered n from .sa)
+    (repeats one two id first second g number line transforms answered .alone, same-proposals one two id first second g number line transforms answered)
+
+-- the SPIs of the chosen set, and the own ones for it, are those that the two ends were given
+pub two-spis : (one two : Own) (id : ℕ) (first second g : List ℕ) (number : ProposalNumber) (line : LineNumber) (transforms : Transforms) →
+    Answered one two id first second g number line transforms →
+    GivenFor (one .ah) (one .esp) (setNumbered number (bodyAt 1 g)) (spisOf (setNumbered number (bodyAt 1 g))) ×
+    GivenFor (two .ah) (two .esp) (setNumbered number (bodyAt 1 g)) (ownSpis (two .ah) (two .esp) (setNumbered number (bodyAt 1 g)))
+two-spis one two id first second g number line transforms answered =
+    let offer = from-offer one two id first second g number line transforms answered in
+    rw (by-number one two id first second g number line transforms answered, spis-of-offer one two id first second g number line transforms answered)
+    (given-for offer (one .ah) (one .esp), given-for offer (two .ah) (two .esp))

@@ -4,15 +4,19 @@ use Prim.Native.Nat.{ℕ, _<_, _≤_}
 use mathlib.Core.Path.{_≡_}
 use mathlib.Core.List.{List, [], _∷_}
 use mathlib.Core.Bool.{Bool, true}
-use lib.ListN.{length, take}
+use lib.ListN.{length, take, drop}
 use Rattle.wire_read.specs.Wire.{Bytes}
-use Rattle.sa_sets.specs.Sets.{setNumbered}
+use Rattle.sa_fields.specs.Fields.{proposalNumber, protocol, transformCount, transformNumber}
+use Rattle.sa_items.specs.Items.{proposal, proposalCount, transform, transformNumbered}
+use Rattle.sa_sets.specs.Sets.{set, setCount, setNumbered}
 use Rattle.sa_fields.specs.declared.ProposalNumber.{ProposalNumber}
+use Rattle.sa_fields.specs.declared.TransformNumber.{TransformNumber}
 use Rattle.policy_choice.specs.Choice.{bodyAt, chooseFrom}
 use Rattle.policy_choice.specs.declared.LineNumber.{LineNumber}
 use Rattle.policy_choice.specs.declared.Transforms.{Transforms}
+use Rattle.policy_choice.specs.declared.Transforms.the-variants.{One, Two}
 use Rattle.policy_choice.specs.declared.Choice.the-variants.{Chosen}
-use Rattle.quick_write.specs.Messages.{bookOf, nonceOf, messageOne, messageTwo, messageThree}
+use Rattle.quick_write.specs.Messages.{bookOf, nonceOf, offerOf, messageOne, messageTwo, messageThree}
 use Rattle.quick_shape.specs.Shapes.{alike, nonce}
 use Rattle.quick_end.specs.Fresh.{fresh}
 use Rattle.quick_step.specs.Steps.{After, kept}
@@ -24,6 +28,8 @@ use Rattle.quick_end.specs.declared.Role.the-variants.{Initiator, Responder}
 use Rattle.quick_end.specs.declared.State.{State}
 use Rattle.quick_end.specs.declared.State.the-variants.{GivenUp}
 use Rattle.quick_end.specs.declared.Own.{Own}
+use Rattle.quick_end.specs.declared.Spis.{Spis}
+use Rattle.quick_end.specs.declared.Spis.the-variants.{Alone, Both}
 use Rattle.quick_end.specs.declared.Agreed.{Agreed}
 use Rattle.quick_end.specs.declared.End.{End}
 use Rattle.quick_step.specs.declared.StepAnswer.{StepAnswer}
@@ -216,3 +222,45 @@ pub record Arrives (m : Bytes) (p : Party) : Type 0 where
 
 abbrev pub delivery : {m : Bytes} {p : Party} (arrival : Arrives m p) → Call
 delivery arrival = deliver (arrival .bytes) true (arrival .output)
+
+-- ---- the same content, and the SPIs that were given
+
+-- the set of message two, as the initiator keeps it
+abbrev pub takenSet : (i : Party) → Bytes
+takenSet i = set 0 (bodyAt 1 (gotOf i))
+
+-- the set of the offer that the responder agreed to, in message one as it keeps it
+abbrev pub chosenSet : (r : Party) → Bytes
+chosenSet r = setNumbered (agreedOf r .set) (bodyAt 1 (gotOf r))
+
+-- a proposal of message two beside the one of the offer: number and protocol, and one transform, which is the offered one of this number,
+-- byte for byte, so with its ID and every attribute
+pub record SameProposal (number : TransformNumber) (taken chosen : Bytes) : Type 0 where
+  pub same-number : proposalNumber taken ≡ proposalNumber chosen
+  pub same-protocol : protocol taken ≡ protocol chosen
+  pub one-transform : transformCount taken ≡ 1
+  pub its-number : transformNumber (transform 0 taken) ≡ number
+  pub same-transform : transform 0 taken ≡ transformNumbered number chosen
+
+-- so in each proposal of the two sets, which have as many as there are transforms
+abbrev pub SameProposals : (transforms : Transforms) (taken chosen : Bytes) → Type 0
+SameProposals (One t) taken chosen = (proposalCount taken ≡ 1) × (proposalCount chosen ≡ 1) × SameProposal t (proposal 0 taken) (proposal 0 chosen)
+SameProposals (Two t u) taken chosen =
+    (proposalCount taken ≡ 2) × (proposalCount chosen ≡ 2) ×
+    SameProposal t (proposal 0 taken) (proposal 0 chosen) × SameProposal u (proposal 1 taken) (proposal 1 chosen)
+
+-- what the initiator took from the message two that the responder wrote is what the responder chose, by its own policy, from the offer that
+-- the initiator wrote
+pub record SameContent (i r : Party) : Type 0 where
+  pub message-one : drop 8 (bodyAt 1 (gotOf r)) ≡ offerOf (i .end .own)
+  pub chooses : Chooses (r .end .own) (gotOf r)
+  pub chosen-set : agreedOf r .set ≡ chooses .number
+  pub chosen-transforms : agreedOf r .transforms ≡ chooses .transforms
+  pub message-two : alike (gotOf i) (sentOf r) ≡ true
+  pub one-set : setCount (bodyAt 1 (gotOf i)) ≡ 1
+  pub proposals : SameProposals (agreedOf r .transforms) (takenSet i) (chosenSet r)
+
+-- the SPIs that an end was given, for the protocols of set s in its order: ESP alone, or "AH before ESP"
+pub data GivenFor (ah esp : ℕ) (s : Bytes) : Spis → Type 0 where
+  alone : proposalCount s ≡ 1 → protocol (proposal 0 s) ≡ 3 → GivenFor ah esp s (Alone esp)
+  both : proposalCount s ≡ 2 → protocol (proposal 0 s) ≡ 2 → protocol (proposal 1 s) ≡ 3 → GivenFor ah esp s (Both ah esp)
