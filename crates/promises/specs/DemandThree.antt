@@ -1,17 +1,25 @@
 -- Demand three, sentence by sentence, over the exchange as crates/quick_exchange/specs/Exchange.antt has it: for every two ends that start
 -- fresh with the same cookies, every order of calls and every network. The one premise is `Fair` there.
 use Prim.Native.Nat.{ℕ, _≤_}
-use mathlib.Core.Path.{_≡_, ap, _∙_}
+use mathlib.Core.Path.{_≡_, refl, ap, _∙_}
 use mathlib.Core.Logic.{_⊎_}
-use mathlib.Core.List.{[], _∷_}
+use mathlib.Core.List.{List, [], _∷_}
 use lib.ListN.{length}
 use Rattle.wire_read.specs.Wire.{Bytes}
-use Rattle.quick_write.specs.Messages.{nonceOf}
+use Rattle.wire_read.specs.Answer.{done, refused}
+use Rattle.sa_fields.specs.declared.ProposalNumber.{ProposalNumber}
+use Rattle.policy_choice.specs.Choice.{bodyAt, chooseFrom, choiceAnswer}
+use Rattle.policy_choice.specs.declared.LineNumber.{LineNumber}
+use Rattle.policy_choice.specs.declared.Transforms.{Transforms}
+use Rattle.policy_choice.specs.declared.Transforms.the-variants.{One, Two}
+use Rattle.policy_choice.specs.declared.Choice.{Choice}
+use Rattle.policy_choice.specs.declared.Choice.the-variants as choices
+use Rattle.quick_write.specs.Messages.{bookOf, nonceOf}
 use Rattle.quick_shape.specs.Shapes.{nonce}
+use Rattle.quick_step.specs.Steps.{stepAnswer}
 use Rattle.quick_end.specs.declared.Role.the-variants.{Initiator, Responder}
 use Rattle.quick_end.specs.declared.State.the-variants.{Half, Open, GivenUp}
 use Rattle.quick_end.specs.declared.Own.{Own}
-use Rattle.quick_step.specs.declared.StepAnswer.the-variants.{Send, Refused}
 use Rattle.quick_exchange.specs.Exchange.{begin, called, World, atFirst, atSecond, step, Fair, Run, Fresh, stateOf, sentOf, gotOf, agreedOf, Same, Only, Then, Beginning, beginCall, afterBegin, Chooses, oneOf, twoOf, threeOf, Arrives, delivery, chosenSet, SameContent, GivenFor}
 use Rattle.quick_exchange.proofs.Fresh.{Holds, fresh-fit}
 use Rattle.quick_exchange.proofs.Moves.{begin-shut}
@@ -23,6 +31,28 @@ use Rattle.quick_exchange.proofs.Example.{reached}
 pub open-stays : {u z : World} → Run u z →
     (stateOf (u .initiator) ≡ Open → z .initiator ≡ u .initiator) × (stateOf (u .responder) ≡ Open → z .responder ≡ u .responder)
 open-stays k = liveness.open-run k
+
+-- "the responder's policy suits the offer", by the choice's number and values: it does where the choice is no refusal, and the choice is then
+-- done with the set's number and the line's
+module _ (own : Own) (m : Bytes) where
+  chooses-as : (chosen : Choice) → chooseFrom 32 (bookOf own) (bodyAt 1 m) ≡ chosen →
+      ((number : ℕ) → choiceAnswer chosen ≡ refused number → ⊥) → Chooses own m
+  unfolding choiceAnswer
+  chooses-as (choices.Refused number) e unrefused = absurd (unrefused number refl)
+  chooses-as (choices.Chosen number line transforms) e unrefused = record { number = number; line = line; transforms = transforms; chosen = e }
+
+  pub suits-unrefused : ((number : ℕ) → choiceAnswer (chooseFrom 32 (bookOf own) (bodyAt 1 m)) ≡ refused number → ⊥) → Chooses own m
+  suits-unrefused unrefused = chooses-as (chooseFrom 32 (bookOf own) (bodyAt 1 m)) refl unrefused
+
+  choice-values : (number : ProposalNumber) (line : LineNumber) (transforms : Transforms) →
+      (numbers : List ℕ) × (choiceAnswer (choices.Chosen number line transforms) ≡ done (number .0 ∷ line .0 ∷ numbers))
+  unfolding choiceAnswer
+  choice-values number line (One t) = (t .0 ∷ [], refl)
+  choice-values number line (Two t u) = (t .0 ∷ u .0 ∷ [], refl)
+
+  pub suits-done : (s : Chooses own m) →
+      (numbers : List ℕ) × (choiceAnswer (chooseFrom 32 (bookOf own) (bodyAt 1 m)) ≡ done (s .number .0 ∷ s .line .0 ∷ numbers))
+  suits-done s = rw (s .chosen) (choice-values (s .number) (s .line) (s .transforms))
 
 module _ {w : World} (fresh : Fresh w) where
   -- "At every moment: if the responder is open, so is the initiator."
@@ -89,12 +119,12 @@ module _ {w : World} (fresh : Fresh w) where
 
   -- "A begin that isn't refused writes message one": it answers with it, and it is the first that the initiator has written.
   pub begin-writes : (b : Beginning w) →
-      (called (b .moment .initiator) (beginCall b) .step .answer ≡ Send (length (oneOf b))) × (afterBegin b .fromInitiator ≡ oneOf b ∷ [])
+      (stepAnswer (called (b .moment .initiator) (beginCall b) .step .answer) ≡ done (1 ∷ length (oneOf b) ∷ [])) × (afterBegin b .fromInitiator ≡ oneOf b ∷ [])
   begin-writes b = (liveness.begin-answers fresh b, liveness.begin-writes fresh b)
 
   -- at the responder every begin is refused
   pub begin-at-responder : {u : World} → Run w u → (id : ℕ) (first second output : Bytes) →
-      (number : ℕ) × (called (u .responder) (begin id first second output) .step .answer ≡ Refused number)
+      (number : ℕ) × (stepAnswer (called (u .responder) (begin id first second output) .step .answer) ≡ refused number)
   begin-at-responder {u} k id first second output = begin-shut (u .responder) id first second output (always fresh k .pair .is-second)
 
   -- "If the responder's policy suits the offer, hashes are good, buffers full size and neither end has given up, then .."

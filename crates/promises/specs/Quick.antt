@@ -2,12 +2,13 @@
 -- every message that an end writes is readable.
 use Prim.Native.Nat.{ℕ}
 use mathlib.Core.Path.{_≡_, refl, sym, ap, _∙_}
+use mathlib.Core.List.{List, [], _∷_}
 use mathlib.Core.Bool.{Bool, not, _||_}
-use lib.ListN.{length, getD}
+use lib.ListN.{length, getD, take}
 use lib.Dec.{eqb}
 use Rattle.wire_read.specs.Wire.{Bytes}
 use Rattle.wire_read.specs.Tests.{if_then_else_}
-use Rattle.wire_read.specs.Answer.{Answer}
+use Rattle.wire_read.specs.Answer.{Answer, done, refused}
 use Rattle.wire_read.proofs.Tests.{never, by-test}
 use Rattle.policy_choice.specs.declared.Choice.{Choice}
 use Rattle.policy_choice.specs.declared.Choice.the-variants as choices
@@ -23,24 +24,26 @@ use Rattle.quick_end.specs.declared.State.{State}
 use Rattle.quick_end.specs.declared.State.the-variants.{Idle, Sent, Half, Open, GivenUp}
 use Rattle.quick_step.specs.declared.StepAnswer.{StepAnswer}
 use Rattle.quick_step.specs.declared.StepAnswer.the-variants.{Send, Nothing, Refused}
-use Rattle.quick_exchange.specs.Exchange.{Party, World, Run, Fresh}
+use Rattle.quick_exchange.specs.Exchange.{Party, said, World, Run, Fresh}
 use Rattle.quick_exchange.specs.Readable.{AllReadable}
-use Rattle.quick_exchange.proofs.Moves.{by-begin, by-tick, by-delivery}
+use Rattle.quick_exchange.proofs.Moves.{refused-is, by-begin, by-tick, by-delivery}
 use Rattle.quick_exchange.proofs.Written.{all-readable}
 
 module _ (end : End) (sent got output : Bytes) where
   -- what a call leaves: where it is a refusal, all is as it was
   pub record Unchanged (after : After) : Type 0 where
-    pub as-it-was : (number : ℕ) → after .step .answer ≡ Refused number → after ≡ refusing end sent got output number
+    pub as-it-was : (number : ℕ) → stepAnswer (after .step .answer) ≡ refused number → after ≡ refusing end sent got output number
 
   refuses : (number : ℕ) → Unchanged (refusing end sent got output number)
-  refuses number = record { as-it-was = λ n e. let same : number ≡ n = cc in ap (refusing end sent got output) same }
+  refuses number = record {
+    as-it-was = λ n e. let is = refused-is (Refused number) n e in let same : number ≡ n = cc in ap (refusing end sent got output) same;
+  }
 
   sends : (after : After) (size : ℕ) → after .step .answer ≡ Send size → Unchanged after
-  sends after size h = record { as-it-was = λ n e. never (cc) }
+  sends after size h = record { as-it-was = λ n e. let is = refused-is (after .step .answer) n e in never (cc) }
 
   quiet : (after : After) → after .step .answer ≡ Nothing → Unchanged after
-  quiet after h = record { as-it-was = λ n e. never (cc) }
+  quiet after h = record { as-it-was = λ n e. let is = refused-is (after .step .answer) n e in never (cc) }
 
   abbrev itself : Party
   itself = record { end = end; sent = sent; got = got }
@@ -97,6 +100,19 @@ meant-answer (Refused number) = refl
 
 pub step-own : (x y : StepAnswer) → stepAnswer x ≡ stepAnswer y → x ≡ y
 step-own x y h = sym (meant-answer x) ∙ ap meant h ∙ meant-answer y
+
+-- what counts as written in an exchange, by these numbers and values
+module _ (x : StepAnswer) (output : Bytes) (log : List Bytes) where
+  pub sent-written : (size : ℕ) → stepAnswer x ≡ done (1 ∷ size ∷ []) → said x output log ≡ take size output ∷ log
+  unfolding stepAnswer
+  sent-written size e = ap (λ (y : StepAnswer). said y output log) (step-own x (Send size) e)
+
+  pub nothing-written : stepAnswer x ≡ done (0 ∷ []) → said x output log ≡ log
+  unfolding stepAnswer
+  nothing-written e = ap (λ (y : StepAnswer). said y output log) (step-own x Nothing e)
+
+  pub refused-unwritten : (number : ℕ) → stepAnswer x ≡ refused number → said x output log ≡ log
+  refused-unwritten number e = ap (λ (y : StepAnswer). said y output log) (refused-is x number e)
 
 -- every message that an end writes is readable, has at most 2,048 bytes, and is padded with fewer than 16 zero bytes: at every moment of an
 -- exchange, whatever was delivered

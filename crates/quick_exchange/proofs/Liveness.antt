@@ -9,6 +9,7 @@ use lib.ListN.{length}
 use lib.Dec.{eqb}
 use borrow.Author.Tests.{eq-eqb}
 use Rattle.wire_read.specs.Wire.{numberAt}
+use Rattle.wire_read.specs.Answer as answers
 use Rattle.wire_write.specs.Put.{paste}
 use Rattle.wire_read.proofs.Tests.{never, clash, both, by-test}
 use Rattle.sa_sets.specs.Sets.{setNumbered}
@@ -20,7 +21,7 @@ use Rattle.quick_end.specs.Fresh.{isIdle, isInitiator, isGivenUp}
 use Rattle.quick_shape.specs.Shapes.{isLonger, alike, shapeOf}
 use Rattle.quick_check.specs.Checks.{readCode}
 use Rattle.quick_taken.specs.Taken.{takenCode}
-use Rattle.quick_step.specs.Steps.{After, nothing, repeating, withState}
+use Rattle.quick_step.specs.Steps.{After, nothing, repeating, withState, stepAnswer}
 use Rattle.quick_tick.specs.Tick.{oneMore}
 use Rattle.quick_deliver.specs.Deliver.{opened, atInitiator, halfway, afterChoice, atResponder}
 use Rattle.quick_shape.proofs.Laws.{alike-same, alike-sym, alike-trans, alike-says}
@@ -488,8 +489,9 @@ module _ {w : World} (f : Fresh w) where
     short-one : length (offered asks-then) ≤ 2048
     short-one = one-short (always f (b .run) .pair .fit-one) asks-then
 
-    pub begin-answers : called (b .moment .initiator) (beginCall b) .step .answer ≡ Send (length (oneOf b))
-    begin-answers = ap (λ (x : After). x .step .answer) its-call ∙ ap (λ (m : List ℕ). Send (length m)) same-one
+    pub begin-answers : stepAnswer (called (b .moment .initiator) (beginCall b) .step .answer) ≡ answers.done (1 ∷ length (oneOf b) ∷ [])
+    unfolding stepAnswer
+    begin-answers = ap (λ (x : After). stepAnswer (x .step .answer)) its-call ∙ ap (λ (m : List ℕ). answers.done (1 ∷ length m ∷ [])) same-one
 
     pub begin-writes : afterBegin b .fromInitiator ≡ oneOf b ∷ []
     begin-writes =

@@ -11,6 +11,7 @@ use lib.Dec.{ltb, eqb}
 use borrow.Author.Tests.{eqb-true, eqb-false, eq-eqb, ltb-false, le-ltb, not-false}
 use Rattle.wire_write.specs.Put.{paste}
 use Rattle.wire_read.specs.Tests.{if_then_else_}
+use Rattle.wire_read.specs.Answer.{Answer, refused}
 use Rattle.wire_read.proofs.Tests.{never, clash, both, neither, by-test, passed}
 use Rattle.wire_write.proofs.Laws.{paste-inside}
 use Rattle.identity.specs.Identity.{identityCode}
@@ -24,7 +25,7 @@ use Rattle.quick_end.specs.Fresh.{isIdle, isInitiator, isGivenUp}
 use Rattle.quick_shape.specs.Shapes.{isLonger, alike, shapeOf}
 use Rattle.quick_check.specs.Checks.{readCode}
 use Rattle.quick_taken.specs.Taken.{takenCode}
-use Rattle.quick_step.specs.Steps.{After, small, kept, refusing, nothing, repeating, sending, withState}
+use Rattle.quick_step.specs.Steps.{After, small, kept, refusing, nothing, repeating, sending, withState, stepAnswer}
 use Rattle.quick_tick.specs.Tick.{isOpen, tickCode, oneMore, ticked}
 use Rattle.quick_begin.specs.Begin.{identitiesWrong, beginCode, begun}
 use Rattle.quick_deliver.specs.Deliver.{deliveryCode, opened, atInitiator, halfway, afterChoice, atResponder, delivered}
@@ -33,9 +34,18 @@ use Rattle.quick_end.specs.declared.Role.the-variants.{Initiator, Responder}
 use Rattle.quick_end.specs.declared.State.{State}
 use Rattle.quick_end.specs.declared.State.the-variants.{Idle, Sent, Half, Open, GivenUp}
 use Rattle.quick_end.specs.declared.Own.{Own}
-use Rattle.quick_step.specs.declared.StepAnswer.the-variants.{Refused}
+use Rattle.quick_step.specs.declared.StepAnswer.{StepAnswer}
+use Rattle.quick_step.specs.declared.StepAnswer.the-variants.{Send, Nothing, Refused}
 use Rattle.quick_exchange.proofs.MessageShapes.{Identities}
 use Rattle.quick_exchange.specs.Exchange.{Party, Call, begin, deliver, tick, called, left, Heard, Allowed, stateOf, FullSize, Chooses}
+
+-- ---- a refusal, by the paper's number
+
+pub refused-is : (x : StepAnswer) (number : ℕ) → stepAnswer x ≡ refused number → x ≡ Refused number
+unfolding stepAnswer
+refused-is (Send size) number e = absurd (omega (arith, ap (λ (a : Answer). length (a .values)) e))
+refused-is Nothing number e = absurd (omega (arith, ap (λ (a : Answer). length (a .values)) e))
+refused-is (Refused n) number e = ap (λ (a : Answer). Refused (a .number)) e
 
 -- ---- states
 
@@ -399,22 +409,23 @@ module _ (p : Party) (q : stateOf p ≡ Open) where
 -- ---- a begin that isn't refused
 
 module _ (p : Party) (id : ℕ) (first second output : List ℕ) where
-  pub begin-open : (narrow : id < 4294967296) → ((number : ℕ) → called p (begin id first second output) .step .answer ≡ Refused number → ⊥) →
+  pub begin-open : (narrow : id < 4294967296) → ((number : ℕ) → stepAnswer (called p (begin id first second output) .step .answer) ≡ refused number → ⊥) →
       (b : Begins p id first second output) × (called p (begin id first second output) ≡ begins-with p (ask-of b narrow) output)
-  unfolding called
+  unfolding called stepAnswer
   begin-open narrow free =
       by-begin p output
-      (λ x. ((number : ℕ) → x .step .answer ≡ Refused number → ⊥) → (b : Begins p id first second output) × (x ≡ begins-with p (ask-of b narrow) output))
+      (λ x. ((number : ℕ) → stepAnswer (x .step .answer) ≡ refused number → ⊥) →
+      (b : Begins p id first second output) × (x ≡ begins-with p (ask-of b narrow) output))
       (λ number shut. absurd (shut number refl))
       id first second
       (λ b open-to. (b, refl))
       free
 
   -- at the responder it is refused
-  pub begin-shut : p .end .own .role ≡ Responder → (number : ℕ) × (called p (begin id first second output) .step .answer ≡ Refused number)
-  unfolding called
+  pub begin-shut : p .end .own .role ≡ Responder → (number : ℕ) × (stepAnswer (called p (begin id first second output) .step .answer) ≡ refused number)
+  unfolding called stepAnswer
   begin-shut role =
-      by-begin p output (λ x. (number : ℕ) × (x .step .answer ≡ Refused number)) (λ number. (number, refl)) id first second
+      by-begin p output (λ x. (number : ℕ) × (stepAnswer (x .step .answer) ≡ refused number)) (λ number. (number, refl)) id first second
       (λ b. clash (sym (second-is (p .end .own .role) role) ∙ b .is-first))
 
 -- ---- a delivery that passes its checks, as an equation

@@ -6,6 +6,7 @@ use mathlib.Core.List.{List, [], _∷_}
 use mathlib.Core.Bool.{Bool, true}
 use lib.ListN.{length, take, drop}
 use Rattle.wire_read.specs.Wire.{Bytes}
+use Rattle.wire_read.specs.Answer.{refused}
 use Rattle.sa_fields.specs.Fields.{proposalNumber, protocol, transformCount, transformNumber}
 use Rattle.sa_items.specs.Items.{proposal, proposalCount, transform, transformNumbered}
 use Rattle.sa_sets.specs.Sets.{set, setCount, setNumbered}
@@ -19,7 +20,7 @@ use Rattle.policy_choice.specs.declared.Choice.the-variants.{Chosen}
 use Rattle.quick_write.specs.Messages.{bookOf, nonceOf, offerOf, messageOne, messageTwo, messageThree}
 use Rattle.quick_shape.specs.Shapes.{alike, nonce}
 use Rattle.quick_end.specs.Fresh.{fresh}
-use Rattle.quick_step.specs.Steps.{After, kept}
+use Rattle.quick_step.specs.Steps.{After, kept, stepAnswer}
 use Rattle.quick_begin.specs.Begin.{begun}
 use Rattle.quick_tick.specs.Tick.{ticked}
 use Rattle.quick_deliver.specs.Deliver.{delivered}
@@ -187,7 +188,7 @@ pub record Beginning (w : World) : Type 0 where
   pub second : Bytes
   pub output : Bytes
   pub narrow : id < 4294967296
-  pub unrefused : (number : ℕ) → called (moment .initiator) (begin id first second output) .step .answer ≡ Refused number → ⊥
+  pub unrefused : (number : ℕ) → stepAnswer (called (moment .initiator) (begin id first second output) .step .answer) ≡ refused number → ⊥
 
 abbrev pub beginCall : {w : World} (b : Beginning w) → Call
 beginCall b = begin (b .id) (b .first) (b .second) (b .output)
