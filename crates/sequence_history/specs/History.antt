@@ -4,7 +4,7 @@ use Prim.Native.Nat.{ℕ, zero, suc, _+_, _-_, max, min}
 use mathlib.Core.Path.{_≡_}
 use mathlib.Core.List.{List, [], _∷_, _++_}
 use mathlib.Core.Bool.{Bool, true, false, not, _||_, _&&_}
-use lib.ListN.{length, getD}
+use lib.ListN.{length, getD, drop}
 use lib.Dec.{ltb, leb, eqb}
 use Rattle.wire_read.specs.Wire.{Bytes}
 use Rattle.wire_write.specs.Put.{bytesOf}
@@ -256,9 +256,14 @@ abbrev firstAnswer : (past : List Event) → Answer
 firstAnswer [] = done []
 firstAnswer (e ∷ past) = e .answer
 
--- the answer to the last of these numbers, and the loss line after them
-unfoldable pub lastOf : (numbers : List ℕ) → Answer
-lastOf numbers = firstAnswer (answeredAll empty [] (adds oneKey ∷ packetsOf numbers))
+-- what a run was answered, in the order of its calls, and behind it what later calls were
+unfoldable pub inTurn : (past : List Event) (later : List Answer) → List Answer
+inTurn [] later = later
+inTurn (e ∷ past) later = inTurn past (e .answer ∷ later)
+
+-- the answers to these numbers in one run, without that to the adding before them; and the loss line after them
+unfoldable pub answersTo : (numbers : List ℕ) → List Answer
+answersTo numbers = drop 1 (inTurn (answeredAll empty [] (adds oneKey ∷ packetsOf numbers)) [])
 
 unfoldable pub lossOf : (numbers : List ℕ) → Answer
 lossOf numbers = firstAnswer (answeredAll empty [] (adds oneKey ∷ packetsOf numbers ++ (asks oneKey ∷ [])))
