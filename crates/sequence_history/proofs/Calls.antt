@@ -20,8 +20,8 @@ use Rattle.sequence_table.specs.declared.table.Entry.{Entry}
 use Rattle.sequence_record.specs.Receive.{judged, verdictAnswer}
 use Rattle.sequence_packet.specs.Packets.{ahReserved, ahSpi, ahNumber, espSpi, espNumber, known, ahSize, ah, esp, read}
 use Rattle.sequence_table.specs.Table.{Table, rooms, empty, find, free, emptied, withReceive, withCounter, entryAt, putEntry, added, removed, judgedAt, packetRead, packet, handedOut, nextToSend, loss, outcomeAnswer, sendingAnswer, countedAnswer}
-use Rattle.sequence_history.specs.History.{Call, adds, removes, shows, sends, asks, Event, isDone, same, keyOf, lives, accepted, handed, entries, highest, recent, rightNumber, rightPacket, right, answered}
-use Rattle.sequence_history.proofs.Record.{Shows, one-step, count-right, after}
+use Rattle.sequence_history.specs.History.{Call, adds, removes, shows, sends, asks, Event, isDone, same, keyOf, lives, accepted, handed, entries, highest, recent, rightNumber, rightPacket, right, answered, acceptedThen}
+use Rattle.sequence_history.proofs.Record.{Shows, one-step, count-right}
 use Rattle.sequence_history.proofs.Table.{begun, Life, Keeps, keeps-none, keeps-entry, keeps-added, keeps-removed, keeps-said, same-self, same-not, full-taken}
 
 abbrev pub lifeOf : (past : List Event) (key : Key) → Life
@@ -126,7 +126,7 @@ module _ (t : Table) (past : List Event) (k : Keeping t past) where
         abbrev now-past : List Event
         now-past = record { call = c; answer = a } ∷ past
 
-        own-life : lifeOf now-past key ≡ record { lives = lives key past; accepted = after a number (accepted key past); handed = handed key past }
+        own-life : lifeOf now-past key ≡ record { lives = lives key past; accepted = acceptedThen a number (accepted key past); handed = handed key past }
         unfolding lives accepted handed keyOf
         own-life = by-test (isDone a) (λ h. rw (is, h, same-self key)) (λ h. rw h)
 
@@ -145,7 +145,7 @@ module _ (t : Table) (past : List Event) (k : Keeping t past) where
           let e : Entry = entryAt t (find t key) in
           let j : Judged = judged (e .receive) number integrity in
           let a : Answer = rightNumber (accepted key past) number integrity in
-          let q : (verdictAnswer (j .verdict) ≡ a) × Shows (j .receive) (after a number (accepted key past)) =
+          let q : (verdictAnswer (j .verdict) ≡ a) × Shows (j .receive) (acceptedThen a number (accepted key past)) =
           one-step (e .receive) (accepted key past) (k .entry key here .shown) number integrity in
           rightly t past c a (putEntry t (find t key) (withReceive e (j .receive)))
           (rw (is, absent key, l, q .0))

@@ -9,7 +9,6 @@ use lib.ListN.{length}
 use lib.Dec.{leb, ltb}
 use lib.Count.{ones}
 use Rattle.wire_read.proofs.Tests.{never, clash, by-test}
-use Rattle.sequence_record.specs.declared.Verdict.{Verdict}
 use Rattle.sequence_record.specs.declared.Judged.{Judged}
 use Rattle.sequence_packet.specs.declared.Packet.{Packet}
 use Rattle.sequence_packet.specs.declared.Packet.the-variants.{Read, Refused}
@@ -19,12 +18,18 @@ use Rattle.sequence_table.specs.declared.table.Outcome.{Outcome}
 use Rattle.sequence_table.specs.declared.table.Outcome.the-variants as Outcomes
 use Rattle.sequence_table.proofs.Laws as L
 use Rattle.sequence_record.specs.Receive.{newReceive, judged, verdictAnswer}
-use Rattle.sequence_packet.specs.Packets.{known, read}
+use Rattle.sequence_packet.specs.Packets.{known, read, packetAnswer}
 use Rattle.sequence_table.specs.Table.{Table, rooms, words, find, free, putKey, newEntry, withReceive, withCounter, entryAt, putEntry, added, removed, judgedAt, packetRead, packet, handedOut, nextToSend, loss, outcomeAnswer, sendingAnswer, countedAnswer}
-use Rattle.wire_read.specs.Answer.{done}
-use Rattle.sequence_history.specs.History.{Call, adds, removes, shows, sends, asks, isDone, keyRead, keyOf, isAdding, Carries, no-more, next, tableVerdicts, lentVerdicts, rightNumber, answered}
+use Rattle.wire_read.specs.Answer.{Answer, done}
+use Rattle.sequence_history.specs.History.{Call, adds, removes, shows, sends, asks, isDone, keyRead, keyOf, isAdding, Carries, no-more, next, tableAnswers, lentAnswers, rightNumber, answered}
 use Rattle.sequence_history.proofs.Record.{one-step, starts, judged-refused}
 use Rattle.sequence_history.proofs.Table.{begun, Apart, apart-entry, apart-added, apart-removed, own-entry, own-room, own-begun}
+
+-- what a packet's answer says is what was read
+read-as : (p : Packet) (spi number : ℕ) → packetAnswer p ≡ done (spi ∷ number ∷ []) → p ≡ Read spi number
+unfolding packetAnswer
+read-as (Read spi′ number′) spi number h = let e : spi′ ∷ number′ ∷ [] ≡ spi ∷ number ∷ [] = ap (λ (a : Answer). a .values) h in cc
+read-as (Refused n) spi number h = let e : [] ≡ spi ∷ number ∷ [] = ap (λ (a : Answer). a .values) h in never (cc)
 
 -- ---- a new life starts empty, whatever words the table had
 
@@ -46,13 +51,14 @@ module _ (t u : Table) (key : Key) (long : length t ≡ rooms * words) where
   abbrev Begun : Type 0
   Begun = (u ≡ begun t key) × ((rooms ≤ find t key) × (free t < rooms))
 
-  adding-done : added t key ≡ (Outcomes.Done, u) → Begun
+  adding-done : answered t (adds key) ≡ (done (1 ∷ []), u) → Begun
+  unfolding answered outcomeAnswer
   adding-done =
-      by-adding t key (λ x. x ≡ (Outcomes.Done, u) → Begun)
-      (λ n h. let e : Outcomes.Refused n ≡ Outcomes.Done = ap (λ (p : Outcome × Table). p .0) h in never (cc))
-      (λ a f h. (sym (ap (λ (p : Outcome × Table). p .1) h), (a, f)))
+      by-adding t key (λ x. _≡_ {A = Answer × Table} (outcomeAnswer (x .0), x .1) (done (1 ∷ []), u) → Begun)
+      (λ n h. let e : _≡_ {A = List ℕ} [] (1 ∷ []) = ap (λ (p : Answer × Table). p .0 .values) h in never (cc))
+      (λ a f h. (sym (ap (λ (p : Answer × Table). p .1) h), (a, f)))
 
-  module _ (adding : added t key ≡ (Outcomes.Done, u)) where
+  module _ (adding : answered t (adds key) ≡ (done (1 ∷ []), u)) where
     new-room : find u key < rooms
     new-room =
         let b = adding-done adding in
@@ -70,10 +76,10 @@ module _ (t u : Table) (key : Key) (long : length t ≡ rooms * words) where
     unfolding answered nextToSend handedOut sendingAnswer
     new-sending = rw (lt-leb rooms (find u key) new-room, new-entry)
 
-    pub new-packet : (integrity : Bool) (s : List ℕ) (number : ℕ) → read (key .protocol) s ≡ Read (key .spi) number →
+    pub new-packet : (integrity : Bool) (s : List ℕ) (number : ℕ) → packetAnswer (read (key .protocol) s) ≡ done (key .spi ∷ number ∷ []) →
         answered u (shows (key .destination) (key .protocol) integrity s) .0 ≡ rightNumber [] number integrity
     unfolding answered packet packetRead judgedAt
-    new-packet integrity s number is = rw (is, lt-leb rooms (find u key) new-room, new-entry) (one-step newReceive [] starts number integrity .0)
+    new-packet integrity s number is = rw (read-as (read (key .protocol) s) (key .spi) number is, lt-leb rooms (find u key) new-room, new-entry) (one-step newReceive [] starts number integrity .0)
 
 -- ---- a call on one key changes nothing that can be asked of another
 
@@ -148,22 +154,23 @@ packet-at : (t : Table) (key : Key) (integrity : Bool) (s : List ℕ) (number : 
 unfolding packet packetRead
 packet-at t key integrity s number here is = rw (is, lt-leb rooms (find t key) here)
 
--- From any life on, the lent record and the table give the same verdicts.
+-- From any life on, the lent record and the table give the same answers.
 pub lent-same : (key : Key) (packets : List (Bool × List ℕ)) (numbers : List (Bool × ℕ)) → Carries key packets numbers →
-    (t : Table) → length t ≡ rooms * words → find t key < rooms → tableVerdicts t key packets ≡ lentVerdicts (entryAt t (find t key) .receive) numbers
-unfolding tableVerdicts lentVerdicts judgedAt
+    (t : Table) → length t ≡ rooms * words → find t key < rooms → tableAnswers t key packets ≡ lentAnswers (entryAt t (find t key) .receive) numbers
+unfolding tableAnswers lentAnswers judgedAt
 lent-same key packets numbers no-more t long here = refl
 lent-same key packets numbers (next {integrity = integrity} {s = s} {number = number} {packets = ps} {numbers = ns} is more) t long here =
     let i : ℕ = find t key in
     let j : Judged = judged (entryAt t i .receive) number integrity in
     let e : Entry = withReceive (entryAt t i) (j .receive) in
-    let on : tableVerdicts (putEntry t i e) key ps ≡ lentVerdicts (entryAt (putEntry t i e) (find (putEntry t i e) key) .receive) ns =
+    let on : tableAnswers (putEntry t i e) key ps ≡ lentAnswers (entryAt (putEntry t i e) (find (putEntry t i e) key) .receive) ns =
     lent-same key ps ns more (putEntry t i e) (L.length-putEntry t i e ∙ long) (omega (arith, L.find-putEntry t i e key)) in
-    rw (packet-at t key integrity s number here is) (ap (λ (l : List Verdict). j .verdict ∷ l) (on ∙ rw (own-entry t key long e here)))
+    rw (packet-at t key integrity s number here (read-as (read (key .protocol) s) (key .spi) number is))
+    (ap (λ (l : List Answer). verdictAnswer (j .verdict) ∷ l) (on ∙ rw (own-entry t key long e here)))
 
 -- From a life's beginning: a table in which the key was just added, and a new lent record.
 pub lent-from-new : (key : Key) (packets : List (Bool × List ℕ)) (numbers : List (Bool × ℕ)) → Carries key packets numbers →
-    (t u : Table) → length t ≡ rooms * words → added t key ≡ (Outcomes.Done, u) → tableVerdicts u key packets ≡ lentVerdicts newReceive numbers
+    (t u : Table) → length t ≡ rooms * words → answered t (adds key) ≡ (done (1 ∷ []), u) → tableAnswers u key packets ≡ lentAnswers newReceive numbers
 lent-from-new key packets numbers c t u long adding =
     let b = adding-done t u key long adding in
     let wide : length u ≡ rooms * words =

@@ -1,4 +1,4 @@
-mod Record
+pub mod Record
 mod Table
 mod Calls
 pub mod Runs

@@ -2,7 +2,7 @@
 -- them again afterwards, and the ones in its window are the count over them.
 use Prim.Native.Nat.{ℕ, zero, suc, _+_, _-_, _*_, _/_, _%_, _^_, _≤_, _<_, min, max}
 use mathlib.Core.Path.{_≡_, refl, sym, ap, ap₂, _∙_}
-use mathlib.Core.Bool.{Bool, true, false, _||_}
+use mathlib.Core.Bool.{Bool, true, false, not, _||_}
 use mathlib.Core.List.{List, [], _∷_}
 use native.Mathlib.Nat.{mod-lt, mod-eq-of-lt, add-zero, add-suc}
 use native.Mathlib.Omega.{arith}
@@ -11,12 +11,12 @@ use lib.Dec.{eqb, leb, ltb, lit<}
 use lib.Pow.{pow-pos, mod-pow-add}
 use lib.Count.{ones, ones-cat}
 use Rattle.wire_read.specs.Tests.{if_then_else_}
-use Rattle.wire_read.specs.Answer.{Answer}
+use Rattle.wire_read.specs.Answer.{refused, done}
 use Rattle.wire_read.proofs.Tests.{clash, neither, by-test}
 use Rattle.sequence_record.specs.declared.Receive.{Receive}
-use Rattle.sequence_record.specs.Receive.{newReceive, bit, behind, acceptedBefore, shifted, withNumber, judged, verdictAnswer}
+use Rattle.sequence_record.specs.Receive.{newReceive, bit, behind, acceptedBefore, shifted, withNumber, judged, lossLine, verdictAnswer}
 use Rattle.sequence_record.proofs.Bits.{set-lt, set-same, set-other, zero-bit, shifted-lt, shifted-low, shifted-high}
-use Rattle.sequence_history.specs.History.{isDone, highest, member, one, sum, recent, rightNumber}
+use Rattle.sequence_history.specs.History.{isDone, highest, member, one, sum, recent, rightNumber, Distinct, lentAnswers, lentAfter, acceptedThen, acceptedBy, lentAccepted}
 
 -- the record shows the accepted numbers h
 pub record Shows (r : Receive) (h : List ℕ) : Type 0 where
@@ -105,10 +105,6 @@ module _ (r : Receive) (h : List ℕ) (s : Shows r h) (n : ℕ) where
           no-zero = simp (ne-eqb 0 n z) (s .no-zero);
         }
 
--- the accepted numbers after a packet with the number n and this answer
-abbrev pub after : Answer → ℕ → List ℕ → List ℕ
-after a n h = if isDone a then n ∷ h else h
-
 -- a refusal leaves the record as it is
 pub judged-refused : (r : Receive) (n : ℕ) (integrity : Bool) → isDone (verdictAnswer (judged r n integrity .verdict)) ≡ false →
     judged r n integrity .receive ≡ r
@@ -119,7 +115,7 @@ judged-refused r n integrity h =
 
 pub one-step : (r : Receive) (h : List ℕ) → Shows r h → (n : ℕ) (integrity : Bool)
     → (verdictAnswer (judged r n integrity .verdict) ≡ rightNumber h n integrity)
-    × Shows (judged r n integrity .receive) (after (rightNumber h n integrity) n h)
+    × Shows (judged r n integrity .receive) (acceptedThen (rightNumber h n integrity) n h)
 unfolding judged rightNumber verdictAnswer
 one-step r h s n integrity =
     let top : behind (r .highest) n ≡ behind (highest h) n = ap (λ (x : ℕ). behind x n) (s .top) in
@@ -129,6 +125,17 @@ one-step r h s n integrity =
     by-test (member n h) (λ m. rw (top, b, again, m) (refl, s))
     (λ m. by-test integrity (λ w. rw (top, b, again, m, w) (refl, takes r h s n (live n (highest h) b .0) (live n (highest h) b .1) m))
     (λ w. rw (top, b, again, m, w) (refl, s))))
+
+-- a number that is right to accept was not accepted before
+pub accepts-new : (numbers : List ℕ) (n : ℕ) (integrity : Bool) → isDone (rightNumber numbers n integrity) ≡ true → member n numbers ≡ false
+unfolding rightNumber
+accepts-new numbers n integrity = of (eqb n 0 || leb (n + 64) (highest numbers)) (member n numbers) integrity
+  where
+    of : (b again integrity : Bool) →
+        isDone (if b then refused 8197 else if again then refused 8194 else if not integrity then refused 24 else done (1 ∷ [])) ≡ true → again ≡ false
+    of true again integrity h = clash h
+    of false true integrity h = clash h
+    of false false integrity h = refl
 
 pub starts : Shows newReceive []
 starts = record { top = refl; fits = lit< tt; bits = λ k l. zero-bit k; no-zero = refl }
@@ -180,3 +187,33 @@ count-right r h s =
     let t : highest h + (64 - highest h) ≡ 64 = omega (arith, leb-true (highest h) 64 e) in
     sym (ap (sum f) t) ∙ sum-stops f (highest h) (64 - highest h) low-end ∙ ap (sum f) (sym q))
     (λ e. let q : 64 ≡ min (highest h) 64 = omega (arith, leb-false (highest h) 64 e) in ap (sum f) q)
+
+-- ---- steps of a lent record, from a new one on
+
+lent-shows : (numbers : List (Bool × ℕ)) (r : Receive) (h : List ℕ) → Shows r h → Distinct h
+    → Shows (lentAfter r numbers) (acceptedBy (lentAnswers r numbers) numbers h)
+    × Distinct (acceptedBy (lentAnswers r numbers) numbers h)
+unfolding lentAnswers lentAfter acceptedBy
+lent-shows [] r h s d = (s, d)
+lent-shows ((integrity, n) ∷ numbers) r h s d =
+    let q = one-step r h s n integrity in
+    let now : List ℕ = acceptedThen (rightNumber h n integrity) n h in
+    let distinct : Distinct now =
+    by-test (isDone (rightNumber h n integrity)) (λ e. rw e (accepts-new h n integrity e, d)) (λ e. rw e d) in
+    rw (q .0) (lent-shows numbers (judged r n integrity .receive) now (q .1) distinct)
+
+module _ (numbers : List (Bool × ℕ)) where
+  lent-shown : Shows (lentAfter newReceive numbers) (lentAccepted numbers)
+  lent-shown = lent-shows numbers newReceive [] starts tt .0
+
+  -- the next answer is right of the numbers accepted before
+  pub lent-right : (number : ℕ) (integrity : Bool) →
+      verdictAnswer (judged (lentAfter newReceive numbers) number integrity .verdict) ≡ rightNumber (lentAccepted numbers) number integrity
+  lent-right number integrity = one-step (lentAfter newReceive numbers) (lentAccepted numbers) lent-shown number integrity .0
+
+  pub lent-once : Distinct (lentAccepted numbers)
+  lent-once = lent-shows numbers newReceive [] starts tt .1
+
+  pub lent-loss : lossLine (lentAfter newReceive numbers)
+      ≡ record { highest = highest (lentAccepted numbers); span = min (highest (lentAccepted numbers)) 64; count = recent (lentAccepted numbers) }
+  lent-loss = rw (lent-shown .top, count-right (lentAfter newReceive numbers) (lentAccepted numbers) lent-shown)

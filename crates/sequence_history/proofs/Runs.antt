@@ -17,6 +17,7 @@ use Rattle.sequence_packet.specs.Packets.{read}
 use Rattle.sequence_table.specs.Table.{Table, empty}
 use Rattle.wire_read.specs.Answer.{refused, done}
 use Rattle.sequence_history.specs.History.{Call, adds, removes, shows, sends, asks, Event, isDone, same, keyRead, numberRead, keyOf, Distinct, countdown, Deed, begins, ends, accepts, hands, none, deed, deedFor, lives, accepted, acceptedAfter, handed, handedAfter, highest, member, rightNumber, rightPacket, right, answered, answeredAll, rightAll}
+use Rattle.sequence_history.proofs.Record.{accepts-new}
 use Rattle.sequence_history.proofs.Table.{same-true}
 use Rattle.sequence_history.proofs.Calls.{Keeping, unread, call-rightly, keeps-nothing}
 
@@ -47,17 +48,6 @@ by-deed past key c A nothing its =
     (λ h. rw h nothing)
 
 -- ---- once only
-
--- a number that is right to accept was not accepted before
-accepts-new : (numbers : List ℕ) (n : ℕ) (integrity : Bool) → isDone (rightNumber numbers n integrity) ≡ true → member n numbers ≡ false
-unfolding rightNumber
-accepts-new numbers n integrity = of (eqb n 0 || leb (n + 64) (highest numbers)) (member n numbers) integrity
-  where
-    of : (b again integrity : Bool) →
-        isDone (if b then refused 8197 else if again then refused 8194 else if not integrity then refused 24 else done (1 ∷ [])) ≡ true → again ≡ false
-    of true again integrity h = clash h
-    of false true integrity h = clash h
-    of false false integrity h = refl
 
 module _ (past : List Event) (key : Key) (distinct : Distinct (accepted key past)) where
   -- what is done for the key keeps its numbers distinct

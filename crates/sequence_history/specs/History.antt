@@ -11,12 +11,11 @@ use Rattle.wire_write.specs.Put.{bytesOf}
 use Rattle.wire_read.specs.Tests.{if_then_else_}
 use Rattle.wire_read.specs.Answer.{Answer, done, refused}
 use Rattle.sequence_record.specs.declared.Receive.{Receive}
-use Rattle.sequence_record.specs.declared.Verdict.{Verdict}
 use Rattle.sequence_packet.specs.declared.Packet.{Packet}
 use Rattle.sequence_packet.specs.declared.Packet.the-variants.{Read, Refused}
 use Rattle.sequence_table.specs.declared.table.Key.{Key}
-use Rattle.sequence_record.specs.Receive.{judged, verdictAnswer}
-use Rattle.sequence_packet.specs.Packets.{known, read}
+use Rattle.sequence_record.specs.Receive.{newReceive, judged, verdictAnswer}
+use Rattle.sequence_packet.specs.Packets.{known, read, packetAnswer}
 use Rattle.sequence_table.specs.Table.{Table, empty, added, removed, packet, nextToSend, loss, outcomeAnswer, sendingAnswer, countedAnswer}
 
 -- ---- what came before
@@ -231,16 +230,37 @@ isAdding (asks key) = false
 pub data Carries (key : Key) : List (Bool × Bytes) → List (Bool × ℕ) → Type 0 where
   no-more : Carries key [] []
   next : {integrity : Bool} {s : Bytes} {number : ℕ} {packets : List (Bool × Bytes)} {numbers : List (Bool × ℕ)} →
-      read (key .protocol) s ≡ Read (key .spi) number → Carries key packets numbers → Carries key ((integrity, s) ∷ packets) ((integrity, number) ∷ numbers)
+      packetAnswer (read (key .protocol) s) ≡ done (key .spi ∷ number ∷ []) → Carries key packets numbers →
+      Carries key ((integrity, s) ∷ packets) ((integrity, number) ∷ numbers)
 
-unfoldable pub tableVerdicts : (t : Table) (key : Key) (packets : List (Bool × Bytes)) → List Verdict
-tableVerdicts t key [] = []
-tableVerdicts t key (p ∷ packets) =
-    packet t (key .destination) (key .protocol) (p .0) (p .1) .0 ∷ tableVerdicts (packet t (key .destination) (key .protocol) (p .0) (p .1) .1) key packets
+-- what the table answers to packets of one key in turn, and a lent record to their numbers
+unfoldable pub tableAnswers : (t : Table) (key : Key) (packets : List (Bool × Bytes)) → List Answer
+tableAnswers t key [] = []
+tableAnswers t key (p ∷ packets) =
+    verdictAnswer (packet t (key .destination) (key .protocol) (p .0) (p .1) .0)
+    ∷ tableAnswers (packet t (key .destination) (key .protocol) (p .0) (p .1) .1) key packets
 
-unfoldable pub lentVerdicts : (r : Receive) (numbers : List (Bool × ℕ)) → List Verdict
-lentVerdicts r [] = []
-lentVerdicts r (n ∷ numbers) = judged r (n .1) (n .0) .verdict ∷ lentVerdicts (judged r (n .1) (n .0) .receive) numbers
+unfoldable pub lentAnswers : (r : Receive) (numbers : List (Bool × ℕ)) → List Answer
+lentAnswers r [] = []
+lentAnswers r (n ∷ numbers) = verdictAnswer (judged r (n .1) (n .0) .verdict) ∷ lentAnswers (judged r (n .1) (n .0) .receive) numbers
+
+-- the lent record after them
+unfoldable pub lentAfter : (r : Receive) (numbers : List (Bool × ℕ)) → Receive
+lentAfter r [] = r
+lentAfter r (n ∷ numbers) = lentAfter (judged r (n .1) (n .0) .receive) numbers
+
+-- the accepted numbers, the last first, after one more answer and after several: known by the answers alone
+abbrev pub acceptedThen : (a : Answer) (number : ℕ) (before : List ℕ) → List ℕ
+acceptedThen a number before = if isDone a then number ∷ before else before
+
+unfoldable pub acceptedBy : (answers : List Answer) (numbers : List (Bool × ℕ)) (before : List ℕ) → List ℕ
+acceptedBy [] numbers before = before
+acceptedBy (a ∷ answers) [] before = before
+acceptedBy (a ∷ answers) (n ∷ numbers) before = acceptedBy answers numbers (acceptedThen a (n .1) before)
+
+-- those of a lent record that was new before these steps
+abbrev pub lentAccepted : (numbers : List (Bool × ℕ)) → List ℕ
+lentAccepted numbers = acceptedBy (lentAnswers newReceive numbers) numbers []
 
 -- ---- numbers shown to a fresh entry
 
