@@ -7,7 +7,7 @@ use lib.ListN.{length, getD, take, drop, take-append-drop, length-drop}
 use lib.Dec.{ltb, eqb}
 use Rattle.wire_read.specs.Wire.{Bytes, equal}
 use Rattle.wire_read.specs.Tests.{if_then_else_}
-use Rattle.wire_read.specs.Answer.{Answer}
+use Rattle.wire_read.specs.Answer.{Answer, done}
 use Rattle.wire_read.proofs.Tests.{never}
 use Rattle.wire_read.proofs.Laws.{equal-true}
 use Rattle.port4500.specs.Port.{marker, datagram, handedOn, datagramAnswer}
@@ -57,9 +57,9 @@ pub record Handed (s : Bytes) (start n : ℕ) (rest : Bytes) : Type 0 where
   pub lies : rest ≡ drop start s
   pub long : length rest ≡ n
 
-pub key-exchange-handed : (s : Bytes) (start n : ℕ) → datagram s ≡ KeyExchange start n → Handed s start n (handedOn (datagram s) s)
-unfolding handedOn
-key-exchange-handed s start n = of (says s)
+pub key-exchange-handed : (s : Bytes) (start n : ℕ) → datagramAnswer (datagram s) ≡ done (2 ∷ start ∷ n ∷ []) → Handed s start n (handedOn (datagram s) s)
+unfolding handedOn datagramAnswer
+key-exchange-handed s start n h = of (says s) (answer-own (datagram s) (KeyExchange start n) h)
   where
     of : {d : Datagram} → Says s d → d ≡ KeyExchange start n → Handed s start n (handedOn d s)
     of keepalive h = never (cc)
@@ -75,9 +75,9 @@ key-exchange-handed s start n = of (says s)
     of esp h = never (cc)
 
 -- an ESP packet is handed on whole
-pub esp-handed : (s : Bytes) (n : ℕ) → datagram s ≡ Esp n → (handedOn (datagram s) s ≡ s) × (length s ≡ n)
-unfolding handedOn
-esp-handed s n = of (says s)
+pub esp-handed : (s : Bytes) (n : ℕ) → datagramAnswer (datagram s) ≡ done (3 ∷ n ∷ []) → (handedOn (datagram s) s ≡ s) × (length s ≡ n)
+unfolding handedOn datagramAnswer
+esp-handed s n h = of (says s) (answer-own (datagram s) (Esp n) h)
   where
     of : {d : Datagram} → Says s d → d ≡ Esp n → (handedOn d s ≡ s) × (length s ≡ n)
     of keepalive h = never (cc)

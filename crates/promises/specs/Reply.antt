@@ -12,13 +12,14 @@ use lib.Seq.{length-take-le, take-at, drop-at, take-add, drop-drop, getD-drop}
 use lib.Dec.{eqb}
 use borrow.Author.Tests.{eq-eqb, ne-eqb, le-ltb}
 use Rattle.wire_read.specs.Wire.{Bytes, numberAt, nextField, reservedField, lengthField}
+use Rattle.wire_read.specs.Answer.{done}
 use Rattle.wire_write.specs.Put.{bytesOf}
 use Rattle.wire_read.proofs.Tests.{by-test, passed}
 use Rattle.wire_read.proofs.Laws.{number-drop, number-take, number-append, number-append-add}
 use Rattle.wire_write.proofs.Laws.{length-bytesOf, number-bytesOf, paste-inside, drop-paste}
 use Rattle.message_header.specs.Header.{exchangeOf, flagsOf, firstPayload, versionOf, messageIdOf, headerLength, lengthWrong, majorWrong, minorWrong, exchangeRefused, exchangeUnknown, flagsWrong, cookieZero, messageIdWrong, flaggedLengthWrong, noPayload, headerCode}
 use Rattle.message_header.proofs.Laws as headers
-use Rattle.message_chain.specs.Message.{message}
+use Rattle.message_chain.specs.Message.{message, messageAnswer}
 use Rattle.message_chain.specs.declared.Message.the-variants.{Read}
 use Rattle.message_chain.proofs.Laws.{reading-header, read-as, one-sa-reads}
 use Rattle.sa_proposals.specs.Proposals.{offerCode}
@@ -28,17 +29,18 @@ use Rattle.sa_items.specs.Items.{proposal, proposalCount, transform}
 use Rattle.sa_fields.specs.declared.ProposalNumber.{ProposalNumber}
 use Rattle.sa_fields.specs.declared.TransformNumber.{TransformNumber}
 use Rattle.policy_suits.specs.Suits.{lowest, protocolsSuit}
-use Rattle.policy_choice.specs.Choice.{numberOf, transformsOf, saFrom, choice}
-use Rattle.policy_reply.specs.Reply.{ownSpi, saOf, setReply, spisLow, replied}
+use Rattle.policy_choice.specs.Choice.{numberOf, transformsOf, saFrom, choice, choiceAnswer}
+use Rattle.policy_reply.specs.Reply.{ownSpi, saOf, setReply, spisLow, replied, replyAnswer}
 use Rattle.policy_choice.specs.declared.LineNumber.{LineNumber}
 use Rattle.policy_choice.specs.declared.Transforms.{Transforms}
 use Rattle.policy_choice.specs.declared.Transforms.the-variants.{One, Two}
 use Rattle.policy_choice.specs.declared.Choice.the-variants.{Chosen}
 use Rattle.policy_reply.specs.declared.Outcome.{Outcome}
-use Rattle.policy_reply.specs.declared.Outcome.the-variants.{Written}
 use Rattle.policy_suits.proofs.SuitLaws.{Known, isakmp, ah-of, esp-of, known-of, chosenIn, taken, shape}
 use Rattle.policy_choice.proofs.ChoiceLaws.{Chose, chose-says, sa-in-front}
 use Rattle.policy_reply.proofs.ReplyLaws.{Repeats, choice-repeats, choice-short, choice-written, sa-lies, sa-long, sa-begins}
+use Rattle.promises.specs.Payloads as payloads
+use Rattle.promises.specs.Choice as choices
 
 -- ---- what is promised
 
@@ -62,7 +64,7 @@ pub record Repeated (ah esp : ℕ) (number : ProposalNumber) (p : Bytes) (t : Tr
 
 -- m reads, its one payload is an SA payload of one set, and that repeats the offered set s
 pub record ReadsBack (exchange ah esp : ℕ) (number : ProposalNumber) (transforms : Transforms) (s m : Bytes) : Type 0 where
-  pub readable : message m ≡ Read exchange 1
+  pub readable : messageAnswer (message m) ≡ done (exchange ∷ 1 ∷ [])
   pub one-set : setCount (saFrom 1 0 m) ≡ 1
   pub as-many : proposalCount (set 0 (saFrom 1 0 m)) ≡ proposalCount s
   pub each : (j : ℕ) → j < proposalCount s → Repeated ah esp number (proposal j s) (chosenNumber transforms j) (proposal j (set 0 (saFrom 1 0 m)))
@@ -85,7 +87,7 @@ pub record TheReply (exchange count ah esp : ℕ) (m : Bytes) (number : Proposal
     (r : Outcome × Bytes) : Type 0 where
   pub payload : Bytes
   pub fits : length payload ≤ 2048
-  pub answered : r .0 ≡ Written (length payload)
+  pub answered : replyAnswer (r .0) ≡ done (length payload ∷ [])
   pub in-front : take (length payload) (r .1) ≡ payload
   pub else-kept : drop (length payload) (r .1) ≡ drop (length payload) buffer
   pub k : ℕ
@@ -259,14 +261,15 @@ module _ (exchange : ℕ) (payload h : Bytes) (a : Around exchange payload h) wh
     sa-is = sa-in-front (h ++ payload) (byte 16 (omega arith) ∙ a .an-sa) (rw behind lies) ∙ ap (drop 4) behind
 
     message-reads : (exchange ≡ 5 → ⊥) → 4 ≤ length payload → nextField payload ≡ 0 → reservedField payload ≡ 0 → offerCode exchange (drop 4 payload) ≡ 0 →
-        message (h ++ payload) ≡ Read exchange 1
+        messageAnswer (message (h ++ payload)) ≡ done (exchange ∷ 1 ∷ [])
+    unfolding messageAnswer
     message-reads other long last reserved reads =
         let same : exchangeOf (h ++ payload) ≡ exchange = byte 18 (omega arith) ∙ a .same-exchange in
         let body : offerCode (exchangeOf (h ++ payload)) (drop 4 (drop 28 (h ++ payload))) ≡ 0 =
         ap (λ (x : ℕ). offerCode x (drop 4 (drop 28 (h ++ payload)))) same ∙ (rw behind reads) in
-        one-sa-reads (h ++ payload) (a .lawful) (byte 16 (omega arith) ∙ a .an-sa) (byte 19 (omega arith) ∙ a .plain) (λ e. other (sym same ∙ e))
-        (rw behind long) (rw behind last) (rw behind reserved) (rw behind lies) body
-        ∙ ap (λ (x : ℕ). Read x 1) same
+        ap messageAnswer (one-sa-reads (h ++ payload) (a .lawful) (byte 16 (omega arith) ∙ a .an-sa) (byte 19 (omega arith) ∙ a .plain) (λ e. other (sym same ∙ e))
+        (rw behind long) (rw behind last) (rw behind reserved) (rw behind lies) body)
+        ∙ ap (λ (x : ℕ). done (x ∷ 1 ∷ [])) same
 
 module _ (exchange count : ℕ) (book m : Bytes) (number : ProposalNumber) (line : LineNumber) (transforms : Transforms)
     (c : Chose exchange count book m number line transforms) (ah esp : ℕ) (small-ah : ah < 4294967296) (small-esp : esp < 4294967296)
@@ -322,10 +325,14 @@ module _ (exchange count : ℕ) (book m : Bytes) (number : ProposalNumber) (line
 
 -- every choice is answered by a reply that reads back: from a message that reads, a buffer with room and own SPIs that may be used
 pub reply-reads-back : (book m : Bytes) (exchange count ah esp : ℕ) (number : ProposalNumber) (line : LineNumber) (transforms : Transforms) (buffer : Bytes) →
-    message m ≡ Read exchange count → choice book m ≡ Chosen number line transforms → 2048 ≤ length buffer → ah < 4294967296 → esp < 4294967296 →
+    messageAnswer (message m) ≡ done (exchange ∷ count ∷ []) → choiceAnswer (choice book m) ≡ choiceAnswer (Chosen number line transforms) →
+    2048 ≤ length buffer → ah < 4294967296 → esp < 4294967296 →
     spisLow ah esp transforms (setNumbered number (saFrom count 0 m)) ≡ false →
     TheReply exchange count ah esp m number transforms buffer (replied book m ah esp buffer)
-reply-reads-back book m exchange count ah esp number line transforms buffer readable chosen room small-ah small-esp high =
+unfolding messageAnswer replyAnswer
+reply-reads-back book m exchange count ah esp number line transforms buffer read-so chosen-so room small-ah small-esp high =
+    let readable : message m ≡ Read exchange count = payloads.answer-own (message m) (Read exchange count) read-so in
+    let chosen : choice book m ≡ Chosen number line transforms = choices.answer-own (choice book m) (Chosen number line transforms) chosen-so in
     let c = chose-says exchange count book m readable number line transforms chosen in
     let low : spisLow ah esp transforms (setNumbered number (saFrom 32 0 m)) ≡ false = rw (c .same-sa) high in
     let bytes : Bytes = saOf 0 (setReply ah esp transforms (setNumbered number (saFrom 32 0 m))) in
