@@ -4,7 +4,7 @@
 use Prim.Native.Nat.{ℕ, zero, suc, _+_, _-_, _≤_, _<_}
 use mathlib.Core.Path.{_≡_, refl, sym, ap, _∙_}
 use mathlib.Core.Logic.{⊎-elim}
-use mathlib.Core.List.{List, [], _∷_, _++_, append-assoc}
+use mathlib.Core.List.{[], _∷_, _++_, append-assoc}
 use mathlib.Core.Bool.{true, false}
 use native.Mathlib.Omega.{arith}
 use lib.ListN.{length, getD, take, drop, length-drop, length-append, List·getD-append}
@@ -267,8 +267,8 @@ module _ (exchange : ℕ) (payload h : Bytes) (a : Around exchange payload h) wh
         let same : exchangeOf (h ++ payload) ≡ exchange = byte 18 (omega arith) ∙ a .same-exchange in
         let body : offerCode (exchangeOf (h ++ payload)) (drop 4 (drop 28 (h ++ payload))) ≡ 0 =
         ap (λ (x : ℕ). offerCode x (drop 4 (drop 28 (h ++ payload)))) same ∙ (rw behind reads) in
-        ap messageAnswer (one-sa-reads (h ++ payload) (a .lawful) (byte 16 (omega arith) ∙ a .an-sa) (byte 19 (omega arith) ∙ a .plain) (λ e. other (sym same ∙ e))
-        (rw behind long) (rw behind last) (rw behind reserved) (rw behind lies) body)
+        ap messageAnswer (one-sa-reads (h ++ payload) (a .lawful) (byte 16 (omega arith) ∙ a .an-sa) (byte 19 (omega arith) ∙ a .plain)
+        (λ e. other (sym same ∙ e)) (rw behind long) (rw behind last) (rw behind reserved) (rw behind lies) body)
         ∙ ap (λ (x : ℕ). done (x ∷ 1 ∷ [])) same
 
 module _ (exchange count : ℕ) (book m : Bytes) (number : ProposalNumber) (line : LineNumber) (transforms : Transforms)

@@ -12,9 +12,10 @@ use Rattle.sequence_packet.specs.Packets.{read, packetAnswer}
 use Rattle.sequence_table.specs.Table.{Table, rooms, words, empty, find, entryAt}
 use Rattle.wire_read.specs.Wire.{Bytes}
 use Rattle.wire_read.specs.Answer.{Answer, done}
-use Rattle.sequence_history.specs.History.{Call, adds, shows, sends, asks, isDone, keyOf, accepted, handed, highest, recent, rightNumber, answered, answeredAll, rightAll, Distinct, countdown, isAdding, Carries, tableAnswers, lentAnswers, lentAfter, lentAccepted}
+use Rattle.sequence_history.specs.History.{Call, adds, shows, sends, asks, isDone, keyOf, accepted, handed, highest, recent, rightNumber, answered, answeredAll, rightAll, Distinct, countdown, isAdding, RightFor, Carries, tableAnswers, lentAnswers, lentAfter, lentAccepted}
 use Rattle.promises.specs.OneAnswerSequence.{Lent}
 use Rattle.sequence_history.proofs.Record as Record
+use Rattle.sequence_history.proofs.Ways as Ways
 use Rattle.sequence_history.proofs.Runs as Runs
 use Rattle.sequence_history.proofs.Keys as Keys
 
@@ -33,6 +34,23 @@ sending-counts = Runs.sending-counts
 
 pub sending-once : (calls : List Call) (key : Key) → Distinct (handed key (answeredAll empty [] calls))
 sending-once = Runs.sending-once
+
+-- The same from any words of the table: after an adding that is done, whatever calls of that key and of others follow, every call of the key but
+-- adding is answered as worked out afresh from the list since that adding, no number is accepted twice in one life of it, and those handed out
+-- for sending are 1, 2, 3, ..
+module _ (t : Table) (key : Key) (long : length t ≡ rooms * words) (adding : answered t (adds key) .0 ≡ done (1 ∷ [])) (calls : List Call) where
+  pub any-words-right : RightFor key (answeredAll t [] (adds key ∷ calls))
+  any-words-right = Runs.any-words-right t key long adding calls
+
+  pub any-words-once : Distinct (accepted key (answeredAll t [] (adds key ∷ calls)))
+  any-words-once = Runs.any-words-once t key long adding calls
+
+  pub any-words-counts :
+      handed key (answeredAll t [] (adds key ∷ calls)) ≡ countdown (length (handed key (answeredAll t [] (adds key ∷ calls))))
+  any-words-counts = Runs.any-words-counts t key long adding calls
+
+  pub any-words-sending-once : Distinct (handed key (answeredAll t [] (adds key ∷ calls)))
+  any-words-sending-once = Runs.any-words-sending-once t key long adding calls
 
 -- A new life of a key starts empty, whatever the table's words were: its loss line, its first number for sending, its packets.
 module _ (t u : Table) (key : Key) (long : length t ≡ rooms * words) (adding : answered t (adds key) ≡ (done (1 ∷ []), u)) where
@@ -91,7 +109,7 @@ lent-loss = Record.lent-loss
 
 -- A refusal changes nothing, and the same call again is refused again: a sending counter at its end stays there.
 pub refused-nothing : (t : Table) (c : Call) → isDone (answered t c .0) ≡ false → answered t c .1 ≡ t
-refused-nothing = Keys.refused-nothing
+refused-nothing = Ways.refused-nothing
 
 pub refused-again : (t : Table) (c : Call) → isDone (answered t c .0) ≡ false → answered (answered t c .1) c ≡ answered t c
-refused-again t c h = ap (λ (u : Table). answered u c) (Keys.refused-nothing t c h)
+refused-again t c h = ap (λ (u : Table). answered u c) (Ways.refused-nothing t c h)

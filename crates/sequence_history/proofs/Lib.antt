@@ -1,5 +1,6 @@
 pub mod Record
 mod Table
+pub mod Ways
 mod Calls
 pub mod Runs
 pub mod Keys

@@ -226,6 +226,12 @@ isAdding (shows destination protocol integrity s) = false
 isAdding (sends key) = false
 isAdding (asks key) = false
 
+-- each call of the key but adding was answered as worked out afresh from what came before it; whether an adding finds the table full is no
+-- matter of one key
+unfoldable pub RightFor : (key : Key) (past : List Event) → Type 0
+RightFor key [] = Unit {0}
+RightFor key (e ∷ past) = (keyOf (e .call) ≡ key → isAdding (e .call) ≡ false → e .answer ≡ right past (e .call)) × RightFor key past
+
 -- packets of the key, each with what is said of its integrity, and the numbers that they carry
 pub data Carries (key : Key) : List (Bool × Bytes) → List (Bool × ℕ) → Type 0 where
   no-more : Carries key [] []
