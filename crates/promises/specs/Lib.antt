@@ -19,3 +19,4 @@ pub mod Reply
 pub mod SequenceAnswers
 pub mod Sequence
 pub mod Quick
+pub mod KeptBuffers
