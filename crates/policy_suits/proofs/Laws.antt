@@ -1,4 +1,4 @@
--- What a search finds is the first that passes its test, and a set that is found to suit has what Suiting.antt says of it.
+-- What a search finds is the first that passes its test; and what a set that suits has passed.
 use Prim.Native.Nat.{ℕ, zero, suc, _+_, _≤_, _<_}
 use mathlib.Core.Path.{_≡_, refl, sym, ap, _∙_}
 use mathlib.Core.Logic.{_⊎_, inl, inr, ⊎-elim}
@@ -13,7 +13,11 @@ use Rattle.sa_fields.specs.Fields.{transformCount}
 use Rattle.sa_items.specs.Items.{proposal, proposalCount}
 use Rattle.policy_lines.specs.Lines.{quickProtocols}
 use Rattle.policy_suits.specs.Suits.{transformSuits, lowestFrom, lowest, protocolsAlone, protocolsBoth, protocolsSuit, setSuits}
-use Rattle.policy_suits.specs.Suiting.{First, none, here, HasTransform, Suits}
+
+-- First test n k r: of the n from k on, r is 1 more than the first that passes the test, or it is 0 and none passes
+pub data First (test : ℕ → Bool) (n k : ℕ) : ℕ → Type 0 where
+  none : ((j : ℕ) → k ≤ j → j < k + n → test j ≡ false) → First test n k 0
+  here : (j : ℕ) → k ≤ j → j < k + n → test j ≡ true → ((i : ℕ) → k ≤ i → i < j → test i ≡ false) → First test n k (j + 1)
 
 -- the first of the n from k on that passes the test, counted from 1; 0 where none does
 unfoldable pub firstFrom : (ℕ → Bool) → ℕ → ℕ → ℕ
@@ -53,21 +57,30 @@ module _ (exchange i : ℕ) (book p : List ℕ) where
   unfolding lowest
   lowest-is = rw (← lowest-first (transformCount p) 0) (first-from (transformSuits exchange i book p) (transformCount p) 0)
 
--- ---- what "suits" says
+-- ---- what a set that suits has passed
+
+-- a transform of the proposal passes the test
+abbrev pub Passes : (exchange i : ℕ) (book p : List ℕ) → Type 0
+Passes exchange i book p = (k : ℕ) × (k < transformCount p) × (transformSuits exchange i book p k ≡ true)
+
+-- the protocols pass theirs, and a transform of each proposal
+pub record Passed (exchange i : ℕ) (book set : List ℕ) : Type 0 where
+  pub protocols : protocolsSuit exchange i book set ≡ true
+  pub each : (j : ℕ) → j < proposalCount set → Passes exchange i book (proposal j set)
 
 module _ (exchange i : ℕ) (book p : List ℕ) where
-  found-of : {n : ℕ} → First (transformSuits exchange i book p) (transformCount p) 0 n → 1 ≤ n → HasTransform exchange i book p
+  found-of : {n : ℕ} → First (transformSuits exchange i book p) (transformCount p) 0 n → 1 ≤ n → Passes exchange i book p
   found-of (none f) h = absurd (omega arith)
   found-of (here j a b t f) h = (j, omega arith, t)
 
-  low-of : {n : ℕ} → First (transformSuits exchange i book p) (transformCount p) 0 n → HasTransform exchange i book p → 1 ≤ n
+  low-of : {n : ℕ} → First (transformSuits exchange i book p) (transformCount p) 0 n → Passes exchange i book p → 1 ≤ n
   low-of (none f) (k, l, t) = clash (sym (f k (omega arith) (omega arith)) ∙ t)
   low-of (here j a b t f) g = omega arith
 
-  has-transform : leb 1 (lowest exchange i book p) ≡ true → HasTransform exchange i book p
+  has-transform : leb 1 (lowest exchange i book p) ≡ true → Passes exchange i book p
   has-transform h = found-of (lowest-is exchange i book p) (leb-true 1 (lowest exchange i book p) h)
 
-  pub transform-low : HasTransform exchange i book p → leb 1 (lowest exchange i book p) ≡ true
+  pub transform-low : Passes exchange i book p → leb 1 (lowest exchange i book p) ≡ true
   transform-low g = le-leb 1 (lowest exchange i book p) (low-of (lowest-is exchange i book p) g)
 
 -- the protocols of a line are one or two
@@ -93,19 +106,19 @@ module _ (exchange i : ℕ) (book s : List ℕ) where
 
   -- the second proposal, where there is one
   second : (eqb (proposalCount s) 1 || leb 1 (lowest exchange i book (proposal 1 s))) ≡ true → (proposalCount s ≡ 1 → ⊥) →
-      HasTransform exchange i book (proposal 1 s)
+      Passes exchange i book (proposal 1 s)
   second h d = has-transform exchange i book (proposal 1 s) (rw (ne-eqb (proposalCount s) 1 d) at h)
 
-  each-of : (c : (proposalCount s ≡ 1) ⊎ (proposalCount s ≡ 2)) → HasTransform exchange i book (proposal 0 s) →
-      ((proposalCount s ≡ 1 → ⊥) → HasTransform exchange i book (proposal 1 s)) →
-      (j : ℕ) → j < proposalCount s → HasTransform exchange i book (proposal j s)
+  each-of : (c : (proposalCount s ≡ 1) ⊎ (proposalCount s ≡ 2)) → Passes exchange i book (proposal 0 s) →
+      ((proposalCount s ≡ 1 → ⊥) → Passes exchange i book (proposal 1 s)) →
+      (j : ℕ) → j < proposalCount s → Passes exchange i book (proposal j s)
   each-of c f g zero l = f
   each-of c f g (suc zero) l = g (λ e. omega arith)
   each-of c f g (suc (suc j)) l = absurd (⊎-elim (λ e. omega arith) (λ e. omega arith) c)
 
-  pub suits-says : setSuits exchange i book s ≡ true → Suits exchange i book s
+  pub suits-passed : setSuits exchange i book s ≡ true → Passed exchange i book s
   unfolding setSuits
-  suits-says h =
+  suits-passed h =
       let outer = both (protocolsSuit exchange i book s && leb 1 (lowest exchange i book (proposal 0 s))) _ h in
       let inner = both (protocolsSuit exchange i book s) (leb 1 (lowest exchange i book (proposal 0 s))) (outer .0) in
       record {
@@ -113,9 +126,9 @@ module _ (exchange i : ℕ) (book s : List ℕ) where
         each = each-of (few (inner .0)) (has-transform exchange i book (proposal 0 s) (inner .1)) (second (outer .1));
       }
 
-  pub says-suits : Suits exchange i book s → setSuits exchange i book s ≡ true
+  pub passed-suits : Passed exchange i book s → setSuits exchange i book s ≡ true
   unfolding setSuits
-  says-suits u =
+  passed-suits u =
       let low : (j : ℕ) → j < proposalCount s → leb 1 (lowest exchange i book (proposal j s)) ≡ true =
       λ j l. transform-low exchange i book (proposal j s) (u .each j l) in
       ⊎-elim

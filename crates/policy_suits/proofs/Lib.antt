@@ -1,3 +1,6 @@
 pub mod Laws
 pub mod SuitLaws
+pub mod SuitingLaws
+mod Exactly
+mod AttributeList
 mod SuitWays

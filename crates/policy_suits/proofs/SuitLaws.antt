@@ -20,8 +20,7 @@ use Rattle.sa_fields.specs.Fields.{protocol, transformCount, transformId, attri
 use Rattle.sa_items.specs.Items.{proposal, proposalCount, transform}
 use Rattle.sa_items.proofs.Laws.{transform-lawful}
 use Rattle.policy_lines.specs.Lines.{quickProtocols}
-use Rattle.policy_suits.specs.Suiting.{First, none, here, HasTransform}
-use Rattle.policy_suits.proofs.Laws.{lowest-is, transform-low}
+use Rattle.policy_suits.proofs.Laws.{First, none, here, lowest-is, Passes, transform-low}
 use Rattle.policy_suits.specs.Suits.{present, valueIs, lifeWithin, nothingSurplus, mainValues, mainSuits, quickId, quickAuthentication, quickSuits, suitsLine, transformSuits, lowest, protocolsAlone, protocolsBoth, protocolsSuit}
 
 -- ---- a transform that suits is short
@@ -138,7 +137,7 @@ first-taken : {test : ℕ → Bool} {n r : ℕ} → First test n 0 r → 1 ≤ r
 first-taken (none f) h = absurd (omega arith)
 first-taken {test} (here j a b t f) h = (omega arith, ap test (omega arith) ∙ t)
 
-module _ (exchange i : ℕ) (book p : List ℕ) (item : Item exchange p) (some : HasTransform exchange i book p) where
+module _ (exchange i : ℕ) (book p : List ℕ) (item : Item exchange p) (some : Passes exchange i book p) where
   pub taken : (lowest exchange i book p - 1 < transformCount p) × (transformSuits exchange i book p (lowest exchange i book p - 1) ≡ true)
   taken = first-taken (lowest-is exchange i book p) (leb-true 1 (lowest exchange i book p) (transform-low exchange i book p some))
 

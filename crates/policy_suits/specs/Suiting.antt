@@ -1,23 +1,88 @@
--- What "suits" says with no search in it, and what it is to be the first: promises speak in these words. Suits.antt says the same as the
--- code looks for it; proofs/Laws.antt shows that the two agree.
-use Prim.Native.Nat.{ℕ, _+_, _≤_, _<_}
+-- What "suits" says, document 01, "Policy book and choice": over the list of a transform's attributes and the list of a set's protocols, with
+-- no search in it. Promises speak in these words. Suits.antt says the same as the code looks for it; proofs/SuitingLaws.antt shows that the
+-- two agree.
+use Prim.Native.Nat.{ℕ, zero, suc, _≤_, _<_}
 use mathlib.Core.Path.{_≡_}
-use mathlib.Core.Bool.{Bool, true, false}
+use mathlib.Core.List.{List, [], _∷_}
+use mathlib.Core.Bool.{_&&_}
+use lib.ListN.{length}
+use lib.Dec.{eqb}
 use Rattle.wire_read.specs.Wire.{Bytes}
-use Rattle.sa_fields.specs.Fields.{transformCount}
-use Rattle.sa_items.specs.Items.{proposal, proposalCount}
-use Rattle.policy_suits.specs.Suits.{transformSuits, protocolsSuit}
+use Rattle.wire_read.specs.Tests.{if_then_else_}
+use Rattle.policy_lines.specs.Lines.{mainSeconds, quickProtocols, quickMode, quickSeconds}
+use Rattle.sa_attribute.specs.Attributes.{attributeType, afterAttribute, value}
+use Rattle.sa_fields.specs.Fields.{protocol, transformCount, transformId, attributesOf}
+use Rattle.sa_items.specs.Items.{firstItem, afterItem, proposal, proposalCount, transform}
 
--- First test n k r: of the n from k on, r is 1 more than the first that passes the test, or it is 0 and none passes
-pub data First (test : ℕ → Bool) (n k : ℕ) : ℕ → Type 0 where
-  none : ((j : ℕ) → k ≤ j → j < k + n → test j ≡ false) → First test n k 0
-  here : (j : ℕ) → k ≤ j → j < k + n → test j ≡ true → ((i : ℕ) → k ≤ i → i < j → test i ≡ false) → First test n k (j + 1)
+-- ---- what is there, as lists
 
--- a proposal has a suiting transform
+-- what lies one behind the other in s, at most left: tell says of the first what goes into the list, and rest takes it off
+unfoldable pub listed : {A : Type 0} (tell : Bytes → A) (rest : Bytes → Bytes) (left : ℕ) (s : Bytes) → List A
+listed tell rest zero s = []
+listed tell rest (suc left) s = if eqb (length s) 0 then [] else tell s ∷ listed tell rest left (rest s)
+
+-- an attribute: its type, and its value
+abbrev pub Attribute : Type 0
+Attribute = ℕ × ℕ
+
+-- the attributes of a transform, one after the other; of a transform that reads they are at most 16
+unfoldable pub attributeList : (attributes : Bytes) → List Attribute
+attributeList attributes = listed (λ s. (attributeType s, value s)) afterAttribute 16 attributes
+
+-- the protocols of a set, proposal by proposal; of an SA payload that reads they are at most 16
+unfoldable pub protocolList : (set : Bytes) → List ℕ
+protocolList set = listed (λ s. protocol (firstItem s)) afterItem 16 set
+
+-- ---- "exactly", and "order is free"
+
+-- whole is rest with x put in somewhere
+pub data PutIn {A : Type 0} (x : A) : (rest whole : List A) → Type 0 where
+  in-front : {rest : List A} → PutIn x rest (x ∷ rest)
+  behind : {y : A} {rest whole : List A} → PutIn x rest whole → PutIn x (y ∷ rest) (y ∷ whole)
+
+-- found has exactly what is wanted, each as often, in any order
+pub data Exactly {A : Type 0} : (wanted found : List A) → Type 0 where
+  nothing : Exactly [] []
+  one-more : {x : A} {wanted found whole : List A} → Exactly wanted found → PutIn x found whole → Exactly (x ∷ wanted) whole
+
+-- ---- what suits
+
+-- "1=129, 2=20, 3=10, 20=2, 11=1 and 12"
+abbrev pub mainAttributes : (life : ℕ) → List Attribute
+mainAttributes life = (1, 129) ∷ (2, 20) ∷ (3, 10) ∷ (20, 2) ∷ (11, 1) ∷ (12, life) ∷ []
+
+-- "4=mode, 1=1, 2 .., and 5=20, but no 5 in an ESP that goes with AH"; protocols as the line says it: "1 ESP alone, 2 AH with ESP"
+abbrev pub quickAttributes : (protocols mode protocol life : ℕ) → List Attribute
+quickAttributes protocols mode protocol life = (4, mode) ∷ (1, 1) ∷ (2, life) ∷ (if eqb protocols 2 && eqb protocol 3 then [] else (5, 20) ∷ [])
+
+-- its ID is this, and "its attributes are exactly" the wanted ones for a life "from 1 to the line's seconds"
+pub record Matches (id seconds : ℕ) (wanted : (life : ℕ) → List Attribute) (t : Bytes) : Type 0 where
+  pub same-id : transformId t ≡ id
+  pub life : ℕ
+  pub from-one : 1 ≤ life
+  pub to-seconds : life ≤ seconds
+  pub attributes : Exactly (wanted life) (attributeList (attributesOf t))
+
+-- "A main transform suits if its ID is 1 and its attributes are exactly .. A quick one: ID 20 (AH) or 129 (ESP); attributes exactly ..":
+-- a transform of a proposal of this protocol, and line i of the exchange's, counted from 0
+pub data TransformSuits (exchange i : ℕ) (book : Bytes) (protocol : ℕ) (t : Bytes) : Type 0 where
+  main : exchange ≡ 2 → Matches 1 (mainSeconds i book) mainAttributes t → TransformSuits exchange i book protocol t
+  quick : (exchange ≡ 2 → ⊥) →
+      Matches (if eqb protocol 2 then 20 else 129) (quickSeconds i book) (quickAttributes (quickProtocols i book) (quickMode i book) protocol) t →
+      TransformSuits exchange i book protocol t
+
+-- one of a proposal's transforms suits
 abbrev pub HasTransform : (exchange i : ℕ) (book p : Bytes) → Type 0
-HasTransform exchange i book p = (k : ℕ) × (k < transformCount p) × (transformSuits exchange i book p k ≡ true)
+HasTransform exchange i book p = (k : ℕ) × (k < transformCount p) × TransformSuits exchange i book (protocol p) (transform k p)
+
+-- the protocols of a line: 1 in exchange 2; ESP alone, or AH with ESP
+unfoldable pub lineProtocols : (exchange i : ℕ) (book : Bytes) → List ℕ
+lineProtocols exchange i book =
+    if eqb exchange 2 then 1 ∷ []
+    else if eqb (quickProtocols i book) 1 then 3 ∷ []
+    else 2 ∷ 3 ∷ []
 
 -- "A set suits a line if its protocols are exactly the line's and each proposal has a suiting transform"
 pub record Suits (exchange i : ℕ) (book set : Bytes) : Type 0 where
-  pub protocols : protocolsSuit exchange i book set ≡ true
+  pub protocols : Exactly (lineProtocols exchange i book) (protocolList set)
   pub each : (j : ℕ) → j < proposalCount set → HasTransform exchange i book (proposal j set)
