@@ -91,6 +91,27 @@ module _ (exchange : ℕ) where
       let other : getD s 4 0 ≡ m → ⊥ = λ e. omega (arith, r .1) in
       rw (ne-eqb (getD s 4 0) m other) (transforms-numbered n (getD s 4 0 + 1) rest (a .1) k left (omega arith) (omega arith))
 
+  transforms-rise : (n least : ℕ) (s : List ℕ) → transformsCode n exchange least s ≡ 0 → (j k : ℕ) → j < k → k < n →
+      getD (firstItem (skip afterItem j s)) 4 0 < getD (firstItem (skip afterItem k s)) 4 0
+  unfolding skip firstItem afterItem
+  transforms-rise zero least s h j k l m = absurd (omega arith)
+  transforms-rise (suc n) least s h j zero l m = absurd (omega arith)
+  transforms-rise (suc n) least s h zero (suc k) l m =
+      let a = after-transform n exchange least s h in
+      omega (
+        arith,
+        first-transform exchange n least s (a .0) .2,
+        transform-at n (getD s 4 0 + 1) (drop (numberAt 2 s 2) s) (a .1) k (omega arith) .1,
+      )
+  transforms-rise (suc n) least s h (suc j) (suc k) l m =
+      transforms-rise n (getD s 4 0 + 1) (drop (numberAt 2 s 2) s) (after-transform n exchange least s h .1) j k (omega arith) (omega arith)
+
+-- "numbers strictly rising", in a proposal that reads
+pub numbers-rise : (exchange : ℕ) (p : List ℕ) → Item exchange p → (j k : ℕ) → j < k → k < transformCount p →
+    transformNumber (transform j p) .0 < transformNumber (transform k p) .0
+unfolding transform transformCount transformNumber
+numbers-rise exchange p item j k l m = transforms-rise exchange (getD p 7 0) 0 (transformBytes p) (item .transforms) j k l m
+
 -- of a proposal that reads
 module _ (exchange : ℕ) (p : List ℕ) (item : Item exchange p) (k : ℕ) (h : k < transformCount p) where
   pub transform-lawful : LawfulTransform exchange (transform k p)
