@@ -1,28 +1,28 @@
 -- The tests of Suits.antt pass exactly where Suiting.antt says that a set suits. From the tests to the words for any bytes; the other way
 -- about for a set that reads.
-use Prim.Native.Nat.{ℕ, _+_, _<_}
-use mathlib.Core.Path.{_≡_, refl, sym, _∙_}
+use Prim.Native.Nat.{ℕ, _+_, _-_, _≤_, _<_}
+use mathlib.Core.Path.{_≡_, refl, sym, ap, _∙_}
 use mathlib.Core.Logic.{_⊎_, inl, inr, ⊎-elim}
 use mathlib.Core.List.{List, [], _∷_}
 use mathlib.Core.Bool.{true, _||_, _&&_}
 use native.Mathlib.Omega.{arith}
 use lib.ListN.{length, getD}
-use lib.Dec.{leb, eqb}
-use borrow.Author.Tests.{eqb-true, eqb-false, eq-eqb, ne-eqb, leb-true}
+use lib.Dec.{ltb, leb, eqb}
+use borrow.Author.Tests.{eqb-true, eqb-false, eq-eqb, ne-eqb, leb-true, ltb-true, ltb-false}
 use Rattle.wire_read.specs.Tests.{if_then_else_}
-use Rattle.wire_read.proofs.Tests.{both, by-test}
+use Rattle.wire_read.proofs.Tests.{clash, both, by-test}
 use Rattle.policy_lines.specs.Lines.{mainSeconds, quickProtocols}
 use Rattle.sa_attribute.specs.Attributes.{attribute, value}
 use Rattle.sa_coding.specs.Coding.{attributesCode}
 use Rattle.sa_coding.proofs.Laws.{wantedTimes, apart}
-use Rattle.sa_fields.specs.Fields.{protocol, transformId, attributesOf}
+use Rattle.sa_fields.specs.Fields.{protocol, transformCount, transformNumber, transformId, attributesOf}
 use Rattle.sa_transforms.proofs.Laws.{LawfulTransform}
 use Rattle.sa_proposals.proofs.Laws.{Item}
 use Rattle.sa_items.specs.Items.{firstItem, afterItem, proposal, proposalCount, transform}
-use Rattle.sa_items.proofs.Laws.{transform-lawful}
-use Rattle.policy_suits.specs.Suits.{present, valueIs, lifeWithin, nothingSurplus, mainValues, mainSuits, quickId, quickAuthentication, quickSuits, suitsLine, transformSuits, protocolsAlone, protocolsBoth, protocolsSuit, setSuits}
-use Rattle.policy_suits.specs.Suiting.{Attribute, attributeList, protocolList, in-front, behind, Exactly, nothing, one-more, mainAttributes, quickAttributes, Matches, TransformSuits, main, quick, lineProtocols, Suits}
-use Rattle.policy_suits.proofs.Laws.{suits-passed, passed-suits}
+use Rattle.sa_items.proofs.Laws.{transform-lawful, numbers-rise}
+use Rattle.policy_suits.specs.Suits.{present, valueIs, lifeWithin, nothingSurplus, mainValues, mainSuits, quickId, quickAuthentication, quickSuits, suitsLine, transformSuits, lowest, protocolsAlone, protocolsBoth, protocolsSuit, setSuits}
+use Rattle.policy_suits.specs.Suiting.{Attribute, attributeList, protocolList, in-front, behind, Exactly, nothing, one-more, mainAttributes, quickAttributes, Matches, TransformSuits, main, quick, lineProtocols, Suits, LowestSuiting}
+use Rattle.policy_suits.proofs.Laws.{First, none, here, lowest-is, Passes, transform-low, suits-passed, passed-suits}
 use Rattle.policy_suits.proofs.Exactly.{listed-count, listed-at, Within, exactly-length, typesOf, AllWithin, no-more, and-also, gathered}
 use Rattle.policy_suits.proofs.AttributeList.{count-listed, sought, value-sought, surplus-passes, value-passes, life-passes}
 
@@ -186,6 +186,29 @@ module _ (exchange i : ℕ) (book p : List ℕ) (k : ℕ) where
   unfolding transformSuits suitsLine
   says-transform lawful (main e m) = rw (eq-eqb exchange 2 e) (says-main (transform k p) (mainSeconds i book) exchange lawful m)
   says-transform lawful (quick e m) = rw (ne-eqb exchange 2 e) (says-quick (transform k p) _ _ _ _ exchange lawful m)
+
+-- the first that passes is the lowest by number, because numbers rise
+module _ (exchange i : ℕ) (book p : List ℕ) (item : Item exchange p) where
+  low-says : {r : ℕ} → First (transformSuits exchange i book p) (transformCount p) 0 r → 1 ≤ r →
+      LowestSuiting exchange i book p (transformNumber (transform (r - 1) p) .0)
+  low-says (none f) h = absurd (omega arith)
+  low-says (here k a b t f) h =
+      let place : k + 1 - 1 ≡ k = omega arith in
+      rw place (record {
+        k = k;
+        a-transform = omega arith;
+        its-number = refl;
+        suits = transform-says exchange i book p k t;
+        no-lower = λ j l m u.
+            let number : ℕ → ℕ = λ n. transformNumber (transform n p) .0 in
+            let before : j < k = by-test (ltb j k) (λ w. ltb-true j k w) (λ w. by-test (eqb j k)
+            (λ e. absurd (omega (arith, ap number (eqb-true j k e))))
+            (λ e. absurd (omega (arith, numbers-rise exchange p item k j (omega (arith, ltb-false j k w, eqb-false j k e)) l)))) in
+            clash (sym (f j (omega arith) before) ∙ says-transform exchange i book p j (transform-lawful exchange p item j l) u);
+      })
+
+  pub lowest-says : Passes exchange i book p → LowestSuiting exchange i book p (transformNumber (transform (lowest exchange i book p - 1) p) .0)
+  lowest-says some = low-says (lowest-is exchange i book p) (leb-true 1 (lowest exchange i book p) (transform-low exchange i book p some))
 
 -- ---- protocols
 

@@ -11,7 +11,7 @@ use Rattle.wire_read.specs.Wire.{Bytes}
 use Rattle.wire_read.specs.Tests.{if_then_else_}
 use Rattle.policy_lines.specs.Lines.{mainSeconds, quickProtocols, quickMode, quickSeconds}
 use Rattle.sa_attribute.specs.Attributes.{attributeType, afterAttribute, value}
-use Rattle.sa_fields.specs.Fields.{protocol, transformCount, transformId, attributesOf}
+use Rattle.sa_fields.specs.Fields.{protocol, transformCount, transformNumber, transformId, attributesOf}
 use Rattle.sa_items.specs.Items.{firstItem, afterItem, proposal, proposalCount, transform}
 
 -- ---- what is there, as lists
@@ -86,3 +86,11 @@ lineProtocols exchange i book =
 pub record Suits (exchange i : ℕ) (book set : Bytes) : Type 0 where
   pub protocols : Exactly (lineProtocols exchange i book) (protocolList set)
   pub each : (j : ℕ) → j < proposalCount set → HasTransform exchange i book (proposal j set)
+
+-- "lowest transform": this is the number of a transform of the proposal that suits, and none with a lower number does
+pub record LowestSuiting (exchange i : ℕ) (book p : Bytes) (number : ℕ) : Type 0 where
+  pub k : ℕ
+  pub a-transform : k < transformCount p
+  pub its-number : transformNumber (transform k p) .0 ≡ number
+  pub suits : TransformSuits exchange i book (protocol p) (transform k p)
+  pub no-lower : (j : ℕ) → j < transformCount p → transformNumber (transform j p) .0 < number → TransformSuits exchange i book (protocol p) (transform j p) → ⊥
