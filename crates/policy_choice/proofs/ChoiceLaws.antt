@@ -25,8 +25,7 @@ use Rattle.message_chain.specs.declared.Payload.{Payload}
 use Rattle.message_chain.specs.declared.Message.the-variants as read
 use Rattle.message_chain.proofs.Laws.{reading-found, read-as}
 use Rattle.policy_suits.specs.Suits.{lowest}
-use Rattle.policy_suits.specs.Suiting.{HasTransform, Suits}
-use Rattle.policy_suits.proofs.Laws.{suits-says}
+use Rattle.policy_suits.proofs.Laws.{Passes, Passed, suits-passed}
 use Rattle.policy_suits.proofs.SuitLaws.{chosenIn, taken}
 use Rattle.policy_book.specs.Book.{bookRead}
 use Rattle.policy_book.specs.declared.Book.{Book}
@@ -111,7 +110,7 @@ sa-in-front m first lies =
 -- ---- a choice
 
 -- the number that names the lowest transform finds it
-pub taken-by-number : (exchange i : ℕ) (book p : List ℕ) → Item exchange p → HasTransform exchange i book p →
+pub taken-by-number : (exchange i : ℕ) (book p : List ℕ) → Item exchange p → Passes exchange i book p →
     transformNumbered (numberOf (lowest exchange i book p) p) p ≡ chosenIn exchange i book p
 unfolding numberOf
 taken-by-number exchange i book p item some =
@@ -124,7 +123,7 @@ pub record Chose (exchange count : ℕ) (book m : List ℕ) (number : ProposalNu
   pub reads : offerCode exchange (saFrom count 0 m) ≡ 0
   pub a-set : k < setCount (saFrom count 0 m)
   pub a-line : i < lineCount exchange book
-  pub suits : Suits exchange i book (set k (saFrom count 0 m))
+  pub suits : Passed exchange i book (set k (saFrom count 0 m))
   pub lawful : LawfulSet exchange (set k (saFrom count 0 m))
   pub its-number : proposalNumber (proposal 0 (set k (saFrom count 0 m))) ≡ number
   pub same-sa : saFrom 32 0 m ≡ saFrom count 0 m
@@ -166,7 +165,7 @@ module _ (exchange count : ℕ) (book m : List ℕ) (readable : message m ≡ re
           reads = reads;
           a-set = a-set;
           a-line = b;
-          suits = suits-says exchange i book (set j body) t;
+          suits = suits-passed exchange i book (set j body) t;
           lawful = set-lawful exchange body reads j a-set;
           its-number = same;
           same-sa = sa-same m exchange count readable some;

@@ -10,8 +10,7 @@ use Rattle.wire_read.specs.Tests.{if_then_else_}
 use Rattle.wire_read.proofs.Tests.{by-test}
 use Rattle.sa_sets.specs.Sets.{set, setCount}
 use Rattle.policy_suits.specs.Suits.{setSuits}
-use Rattle.policy_suits.specs.Suiting.{First, none, here}
-use Rattle.policy_suits.proofs.Laws.{firstFrom, first-from}
+use Rattle.policy_suits.proofs.Laws.{First, none, here, firstFrom, first-from}
 use Rattle.policy_choice.specs.Choice.{lineCount, lineFrom, firstLine, chosen, setFrom, chooseFrom}
 use Rattle.policy_choice.specs.declared.Choice.{Choice}
 use Rattle.policy_choice.specs.declared.Choice.the-variants.{Refused}

@@ -36,7 +36,7 @@ use Rattle.policy_choice.specs.declared.Choice.the-variants.{Chosen}
 use Rattle.policy_choice.specs.declared.Transforms.{Transforms}
 use Rattle.policy_choice.specs.declared.Transforms.the-variants.{One, Two}
 use Rattle.policy_choice.specs.Choice.{numberOf, transformsOf, saFrom, choice}
-use Rattle.policy_suits.specs.Suiting.{HasTransform, Suits}
+use Rattle.policy_suits.proofs.Laws.{Passes, Passed}
 use Rattle.policy_suits.specs.Suits.{lowest}
 use Rattle.policy_suits.proofs.SuitLaws.{Known, isakmp, ah-of, esp-of, known-of, known-quick, suiting-short, chosenIn, taken, Pair, shape}
 use Rattle.policy_choice.proofs.ChoiceLaws.{Chose, taken-by-number}
@@ -296,7 +296,7 @@ module _ (exchange ah esp : ℕ) (small-ah : ah < 4294967296) (small-esp : esp <
 
 -- ---- what the choice takes of an offered proposal
 
-offered : (exchange i : ℕ) (book p : List ℕ) → Item exchange p → HasTransform exchange i book p → (ah esp : ℕ) → spiLow ah esp (protocol p) ≡ false →
+offered : (exchange i : ℕ) (book p : List ℕ) → Item exchange p → Passes exchange i book p → (ah esp : ℕ) → spiLow ah esp (protocol p) ≡ false →
     Offered exchange ah esp p (chosenIn exchange i book p)
 unfolding protocol
 offered exchange i book p item some ah esp high =
@@ -317,7 +317,7 @@ record Replies (exchange i ah esp : ℕ) (book s : List ℕ) : Type 0 where
   repeats : Repeats exchange ah esp s (λ j. chosenIn exchange i book (proposal j s)) (framed bytes)
   few : length bytes ≤ 136
 
-module _ (exchange i ah esp : ℕ) (book s : List ℕ) (lawful : LawfulSet exchange s) (suits : Suits exchange i book s) (small-ah : ah < 4294967296)
+module _ (exchange i ah esp : ℕ) (book s : List ℕ) (lawful : LawfulSet exchange s) (suits : Passed exchange i book s) (small-ah : ah < 4294967296)
     (small-esp : esp < 4294967296) where
   abbrev chosen-at : ℕ → List ℕ
   chosen-at j = chosenIn exchange i book (proposal j s)

@@ -32,8 +32,7 @@ use Rattle.policy_choice.specs.declared.Transforms.{Transforms}
 use Rattle.policy_choice.specs.declared.Transforms.the-variants.{One, Two}
 use Rattle.policy_choice.specs.declared.Choice.{Choice}
 use Rattle.policy_choice.specs.declared.Choice.the-variants.{Chosen}
-use Rattle.policy_suits.specs.Suiting.{Suits}
-use Rattle.policy_suits.proofs.Laws.{suits-says}
+use Rattle.policy_suits.proofs.Laws.{Passed, suits-passed}
 use Rattle.policy_choice.proofs.Laws.{Choosing, fourteen, chose, choosing}
 use Rattle.policy_choice.proofs.ChoiceLaws.{taken-by-number}
 use Rattle.policy_suits.proofs.SuitLaws.{Known, isakmp, ah-of, esp-of, known-of, chosenIn, taken}
@@ -86,7 +85,7 @@ record ChoseFrom (book body : List ℕ) (number : ProposalNumber) (transforms : 
   k : ℕ
   i : ℕ
   a-set : k < setCount body
-  suits : Suits 32 i book (set k body)
+  suits : Passed 32 i book (set k body)
   lawful : LawfulSet 32 (set k body)
   its-number : proposalNumber (proposal 0 (set k body)) ≡ number
   by-number : setNumbered number body ≡ set k body
@@ -105,7 +104,7 @@ module _ (book body : List ℕ) (reads : offerCode 32 body ≡ 0) (number : Prop
         k = j;
         i = i;
         a-set = a-set;
-        suits = suits-says 32 i book (set j body) t;
+        suits = suits-passed 32 i book (set j body) t;
         lawful = set-lawful 32 body reads j a-set;
         its-number = same;
         by-number = rw (← same) (set-by-number 32 body reads j a-set);
