@@ -77,20 +77,23 @@ module _ (m : List ℕ) where
       let up : suc n + d ≡ suc (n + d) = omega arith in
       rw up (by-test (eqb (payloadAt k m .payloadtype) 1) (λ e. rw e) (λ e. rw e (sa-more n d (k + 1) (λ z. some (rw e z)))))
 
-  module _ (exchange count : ℕ) (readable : message m ≡ read.Read exchange count) (some : length (saFrom count 0 m) ≡ 0 → ⊥) where
-    pub sa-reads : offerCode exchange (saFrom count 0 m) ≡ 0
+  module _ (exchange count : ℕ) (readable : message m ≡ read.Read exchange count) where
+    -- the body of every SA payload reads
+    pub body-reads : (j : ℕ) → j < count → payloadAt j m .payloadtype ≡ 1 → offerCode exchange (bodyAt j m) ≡ 0
     unfolding bodyAt payloadAt bodyOf
-    sa-reads =
+    body-reads j within offers =
         let r = read-as m exchange count readable in
         let f = reading-found m (r .found) (r .is) .0 in
-        let p = sa-place count 0 some in
-        let below : p .j < length (r .found) = omega (arith, p .below, r .same-count) in
-        let walked = f .walked (p .j) below in
-        let payloadtype : nth (r .found) (p .j) .payloadtype ≡ 1 = ap (λ (x : Payload). x .payloadtype) (sym walked) ∙ p .payloadtype in
-        let s : List ℕ = drop (nth (r .found) (p .j) .start) m in
-        let body : bodyAt (p .j) m ≡ drop 4 (take (numberAt 2 s 2) s) = rw (walked, f .measured (p .j) below) in
-        ap (λ (x : ℕ). offerCode x (saFrom count 0 m)) (sym (r .same-exchange)) ∙ ap (offerCode (exchangeOf m)) (p .body ∙ body)
-        ∙ f .offers (p .j) below payloadtype
+        let below : j < length (r .found) = omega (arith, r .same-count) in
+        let walked = f .walked j below in
+        let payloadtype : nth (r .found) j .payloadtype ≡ 1 = ap (λ (x : Payload). x .payloadtype) (sym walked) ∙ offers in
+        let s : List ℕ = drop (nth (r .found) j .start) m in
+        let body : bodyAt j m ≡ drop 4 (take (numberAt 2 s 2) s) = rw (walked, f .measured j below) in
+        ap (λ (x : ℕ). offerCode x (bodyAt j m)) (sym (r .same-exchange)) ∙ ap (offerCode (exchangeOf m)) body ∙ f .offers j below payloadtype
+
+  module _ (exchange count : ℕ) (readable : message m ≡ read.Read exchange count) (some : length (saFrom count 0 m) ≡ 0 → ⊥) where
+    pub sa-reads : offerCode exchange (saFrom count 0 m) ≡ 0
+    sa-reads = let p = sa-place count 0 some in rw (p .body) (body-reads exchange count readable (p .j) (omega (arith, p .below)) (p .payloadtype))
 
     -- "a message has at most 32 payloads"
     pub sa-same : saFrom 32 0 m ≡ saFrom count 0 m
