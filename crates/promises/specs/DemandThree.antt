@@ -18,6 +18,7 @@ use Rattle.quick_write.specs.Messages.{bookOf, nonceOf}
 use Rattle.quick_shape.specs.Shapes.{nonce}
 use Rattle.quick_step.specs.Steps.{stepAnswer}
 use Rattle.quick_end.specs.declared.Role.the-variants.{Initiator, Responder}
+use Rattle.quick_end.specs.declared.State.{State}
 use Rattle.quick_end.specs.declared.State.the-variants.{Half, Open, GivenUp}
 use Rattle.quick_end.specs.declared.Own.{Own}
 use Rattle.quick_exchange.specs.Exchange.{begin, called, World, atFirst, atSecond, step, Fair, Run, Fresh, stateOf, sentOf, gotOf, agreedOf, Same, Only, Then, Beginning, beginCall, afterBegin, Chooses, oneOf, twoOf, threeOf, Arrives, delivery, chosenSet, SameContent, GivenFor}
@@ -25,7 +26,7 @@ use Rattle.quick_exchange.proofs.Fresh.{Holds, fresh-fit}
 use Rattle.quick_exchange.proofs.Moves.{begin-shut}
 use Rattle.quick_exchange.proofs.Safety.{always, open-both, same-both, content-both}
 use Rattle.quick_exchange.proofs.Liveness as liveness
-use Rattle.quick_exchange.proofs.Example.{reached}
+use Rattle.quick_exchange.proofs.Example as example
 
 -- "An open end stays open with the same values": its record and its kept buffers stay as they are.
 pub open-stays : {u z : World} → Run u z →
@@ -155,7 +156,65 @@ module _ {w : World} (fresh : Fresh w) where
         Fair a (atSecond (delivery x)) × Fair c (atFirst (delivery y)) × Fair d (atSecond (delivery v))
     arrivals-fair k x l y j v = (liveness.one-fair fresh b s k x, liveness.two-fair fresh b s k x l y, liveness.three-fair fresh b s k x l y j v)
 
--- not said of nothing: an exchange in which message one is lost and sent again, arrives twice with the hash bytes filled in, and both ends
--- open, by computation
-pub both-open-reached : (w : World) × (u : World) × Fresh w × Run w u × (stateOf (u .initiator) ≡ Open) × (stateOf (u .responder) ≡ Open)
-both-open-reached = reached
+-- ---- not said of nothing
+
+-- some exchange has a moment at which the two are in these states
+abbrev pub Reached : (first second : State) → Type 0
+Reached first second = (w : World) × (u : World) × Fresh w × Run w u × (stateOf (u .initiator) ≡ first) × (stateOf (u .responder) ≡ second)
+
+reached : {u : World} {first second : State} {fromFirst fromSecond : List Bytes} → Run example.start u → example.At u first second fromFirst fromSecond →
+    Reached first second
+reached {u} k at = (example.start, u, example.computed .starts-fresh, k, example.first-is at, example.second-is at)
+
+-- by computation: message one is lost and sent again, arrives twice with the hash bytes filled in, and both ends open
+pub both-open-reached : Reached Open Open
+both-open-reached = reached example.to-opened (example.computed .at-opened)
+
+-- before message three arrives, the responder is Half
+pub half-reached : Reached Open Half
+half-reached = reached example.to-halfway (example.computed .at-halfway)
+
+-- where message three never arrives, it gives up
+pub given-up-reached : Reached Open GivenUp
+given-up-reached = reached example.to-forsaken (example.computed .at-forsaken)
+
+-- all that `handshake` asks
+pub record Asked : Type 0 where
+  pub start : World
+  pub fresh : Fresh start
+  pub begins : Beginning start
+  pub suits : Chooses (start .responder .end .own) (oneOf begins)
+  pub one-at : World
+  pub to-one : Run (afterBegin begins) one-at
+  pub one : Arrives (oneOf begins) (one-at .responder)
+  pub two-at : World
+  pub to-two : Run (step one-at (atSecond (delivery one))) two-at
+  pub two : Arrives (twoOf begins suits) (two-at .initiator)
+  pub three-at : World
+  pub to-three : Run (step two-at (atFirst (delivery two))) three-at
+  pub three : Arrives (threeOf begins) (three-at .responder)
+
+-- the exchange that was computed has it all, so that `handshake` speaks of it
+abbrev pub asked-met : Asked
+asked-met = record {
+  start = example.start;
+  fresh = example.computed .starts-fresh;
+  begins = example.beginning;
+  suits = example.chooses;
+  one-at = example.resent;
+  to-one = example.one-lost;
+  one = example.one-arrives;
+  two-at = example.repeated;
+  to-two = example.one-again;
+  two = example.two-arrives;
+  three-at = example.halfway;
+  to-three = example.two-taken;
+  three = example.three-arrives;
+}
+
+asked-opens : (x : Asked) {z : World} → Run (step (x .three-at) (atSecond (delivery (x .three)))) z →
+    (stateOf (z .initiator) ≡ Open) × (stateOf (z .responder) ≡ Open)
+asked-opens x i = handshake (x .fresh) (x .begins) (x .suits) (x .to-one) (x .one) (x .to-two) (x .two) (x .to-three) (x .three) i
+
+pub handshake-met : (stateOf (example.opened .initiator) ≡ Open) × (stateOf (example.opened .responder) ≡ Open)
+handshake-met = asked-opens asked-met example.three-taken

@@ -1,13 +1,14 @@
 -- One exchange, computed: message one is lost and sent again by a tick, it arrives twice, the carrier fills in the hash bytes, and both
--- ends are open. So what promises say of an exchange is not said of nothing.
+-- ends are open; or message three never arrives, and the responder gives up. So what promises say of an exchange is not said of nothing.
 use Prim.Native.Nat.{ℕ}
-use mathlib.Core.Path.{_≡_, refl}
+use mathlib.Core.Path.{_≡_, refl, ap}
 use mathlib.Core.List.{List, [], _∷_}
 use mathlib.Core.Bool.{true}
 use native.Mathlib.Omega.{arith}
-use lib.ListN.{replicate}
+use lib.ListN.{length, replicate, length-replicate}
 use Rattle.wire_read.specs.Wire.{numberAt, allZero, equal}
 use Rattle.wire_read.specs.Parts as parts
+use Rattle.wire_read.proofs.Tests.{never}
 use Rattle.wire_write.specs.Put.{bytesOf, head, headed, paste}
 use Rattle.identity.specs.Identity as identities
 use Rattle.sa_attribute.specs.Attributes as attributes
@@ -36,11 +37,14 @@ use Rattle.quick_begin.specs.Begin as begins
 use Rattle.quick_tick.specs.Tick as ticks
 use Rattle.quick_deliver.specs.Deliver as delivers
 use Rattle.policy_choice.specs.declared.Transforms.the-variants.{Two}
+use Rattle.policy_choice.specs.declared.Choice.the-variants.{Chosen}
 use Rattle.quick_end.specs.declared.Role.the-variants.{Initiator, Responder}
 use Rattle.quick_end.specs.declared.Spis.the-variants.{Both}
 use Rattle.quick_end.specs.declared.Agreed.{Agreed}
-use Rattle.quick_end.specs.declared.State.the-variants.{Open}
-use Rattle.quick_exchange.specs.Exchange.{begin, deliver, tick, called, World, Event, atFirst, atSecond, step, here, Fair, Run, rest, goes, Fresh, stateOf, agreedOf}
+use Rattle.quick_end.specs.declared.State.{State}
+use Rattle.quick_end.specs.declared.State.the-variants.{Idle, Sent, Half, Open, GivenUp}
+use Rattle.quick_step.specs.declared.StepAnswer.the-variants.{Send, Refused}
+use Rattle.quick_exchange.specs.Exchange.{Party, begin, deliver, tick, called, World, Event, atFirst, atSecond, step, Heard, here, Run, rest, goes, Fresh, stateOf, agreedOf, FullSize, Beginning, afterBegin, Chooses, oneOf, twoOf, threeOf, Arrives, delivery}
 
 -- the initiator's policy book has two quick lines: ESP alone, and AH with ESP, mode 1 and 3,600 seconds; the responder's has the second alone
 unfoldable pub bookOne : List ℕ
@@ -77,62 +81,122 @@ start = record {
 unfoldable pub filled : List ℕ → List ℕ
 filled m = paste m 32 (replicate 32 170)
 
--- the three messages; the responder chooses set 2
-unfoldable pub messageFirst : List ℕ
+-- what is agreed: set 2, transform 1 of each proposal, and the SPIs of both sides, AH before ESP
+abbrev pub agreement : Agreed
+agreement = record { set = record { 0 = 2 }; transforms = Two (record { 0 = 1 }) (record { 0 = 1 }); initiator = Both 256 257; responder = Both 512 513 }
+
+-- the three messages
+abbrev pub messageFirst : List ℕ
 messageFirst = messages.messageOne (start .initiator .end .own) 7 firstIdentity secondIdentity
 
-unfoldable pub messageSecond : List ℕ
+abbrev pub messageSecond : List ℕ
 messageSecond =
-    messages.messageTwo (start .responder .end .own) 7 (Two (record { 0 = 1 }) (record { 0 = 1 }))
-    (sets.setNumbered (record { 0 = 2 }) (choices.bodyAt 1 messageFirst)) firstIdentity secondIdentity
+    messages.messageTwo (start .responder .end .own) 7 (agreement .transforms) (sets.setNumbered (agreement .set) (choices.bodyAt 1 messageFirst))
+    firstIdentity secondIdentity
 
-unfoldable pub messageThird : List ℕ
+abbrev pub messageThird : List ℕ
 messageThird = messages.messageThree (start .initiator .end .own) 7
 
--- what happens: begin; its message is lost, and a tick sends it again; it arrives; it arrives once more; message two; message three
-unfoldable pub trace : List Event
-trace =
-    atFirst (begin 7 firstIdentity secondIdentity buffer)
-    ∷ atFirst (tick buffer)
-    ∷ atSecond (deliver (filled messageFirst) true buffer)
-    ∷ atSecond (deliver (filled messageFirst) true buffer)
-    ∷ atFirst (deliver (filled messageSecond) true buffer)
-    ∷ atSecond (deliver (filled messageThird) true buffer)
-    ∷ []
-
+-- the world after these events; each is computed once
 unfoldable pub after : World → List Event → World
 after w [] = w
 after w (ev ∷ evs) = after (step w ev) evs
 
--- each event is one that Exchange.Fair allows where it happens
-unfoldable pub FairTrace : World → List Event → Type 0
-FairTrace w [] = Unit {0}
-FairTrace w (ev ∷ evs) = Fair w ev × FairTrace (step w ev) evs
+-- what may happen: begin, a tick, and each message as it arrives
+abbrev beginFirst : Event
+beginFirst = atFirst (begin 7 firstIdentity secondIdentity buffer)
 
-fair-run : {w u : World} (evs : List Event) → Run w u → FairTrace u evs → Run w (after u evs)
-unfolding FairTrace after
-fair-run [] k f = k
-fair-run (ev ∷ evs) k f = fair-run evs (goes k ev (f .0)) (f .1)
+abbrev tickFirst : Event
+tickFirst = atFirst (tick buffer)
 
--- set 2, transform 1 of each proposal, and the SPIs of both sides, AH before ESP
-abbrev pub agreement : Agreed
-agreement = record { set = record { 0 = 2 }; transforms = Two (record { 0 = 1 }) (record { 0 = 1 }); initiator = Both 256 257; responder = Both 512 513 }
+abbrev tickSecond : Event
+tickSecond = atSecond (tick buffer)
 
--- what is computed of it
+abbrev deliverOne : Event
+deliverOne = atSecond (deliver (filled messageFirst) true buffer)
+
+abbrev deliverTwo : Event
+deliverTwo = atFirst (deliver (filled messageSecond) true buffer)
+
+abbrev deliverThree : Event
+deliverThree = atSecond (deliver (filled messageThird) true buffer)
+
+-- the moments: message one is lost, and a tick sends it again; it arrives twice; message two arrives; message three arrives
+abbrev pub resent : World
+resent = after start (beginFirst ∷ tickFirst ∷ [])
+
+abbrev pub repeated : World
+repeated = after resent (deliverOne ∷ deliverOne ∷ [])
+
+abbrev pub halfway : World
+halfway = after repeated (deliverTwo ∷ [])
+
+abbrev pub opened : World
+opened = after halfway (deliverThree ∷ [])
+
+-- or message three never arrives: three ticks send message two again, and the fourth gives up
+abbrev pub forsaken : World
+forsaken = after halfway (tickSecond ∷ tickSecond ∷ tickSecond ∷ tickSecond ∷ [])
+
+-- what is seen at a moment: the states, how long the kept buffers are, and what was written so far, the newest first
+pub record Seen : Type 0 where
+  pub first : State
+  pub second : State
+  pub firstSent : ℕ
+  pub firstGot : ℕ
+  pub secondSent : ℕ
+  pub secondGot : ℕ
+  pub fromFirst : List (List ℕ)
+  pub fromSecond : List (List ℕ)
+
+abbrev pub seen : World → Seen
+seen w = record {
+  first = stateOf (w .initiator);
+  second = stateOf (w .responder);
+  firstSent = length (w .initiator .sent);
+  firstGot = length (w .initiator .got);
+  secondSent = length (w .responder .sent);
+  secondGot = length (w .responder .got);
+  fromFirst = w .fromInitiator;
+  fromSecond = w .fromResponder;
+}
+
+-- the moment w shows these states and messages, and buffers of full size
+pub record At (w : World) (first second : State) (fromFirst fromSecond : List (List ℕ)) : Type 0 where
+  pub shows : seen w
+      ≡ record {
+        first = first;
+        second = second;
+        firstSent = 2048;
+        firstGot = 2048;
+        secondSent = 2048;
+        secondGot = 2048;
+        fromFirst = fromFirst;
+        fromSecond = fromSecond;
+      }
+
+abbrev agreedAt : World → List Agreed
+agreedAt w = agreedOf (w .initiator) ∷ agreedOf (w .responder) ∷ []
+
+-- what is computed
 pub record Computed : Type 0 where
   pub starts-fresh : Fresh start
-  pub fair : FairTrace start trace
-  pub first-open : stateOf (after start trace .initiator) ≡ Open
-  pub second-open : stateOf (after start trace .responder) ≡ Open
-  pub first-values : agreedOf (after start trace .initiator) ≡ agreement
-  pub second-values : agreedOf (after start trace .responder) ≡ agreement
-  -- what was written on the way, the newest first: message one twice and message three; message two twice
-  pub from-first : after start trace .fromInitiator ≡ messageThird ∷ messageFirst ∷ messageFirst ∷ []
-  pub from-second : after start trace .fromResponder ≡ messageSecond ∷ messageSecond ∷ []
+  pub begin-sends : called (start .initiator) (begin 7 firstIdentity secondIdentity buffer) .step .answer ≡ Send (length messageFirst)
+  pub second-chooses : choices.chooseFrom 32 (messages.bookOf (start .responder .end .own)) (choices.bodyAt 1 messageFirst)
+      ≡ Chosen (agreement .set) (record { 0 = 1 }) (agreement .transforms)
+  pub one-equals : shapes.alike (filled messageFirst) messageFirst ≡ true
+  pub two-equals : shapes.alike (filled messageSecond) messageSecond ≡ true
+  pub three-equals : shapes.alike (filled messageThird) messageThird ≡ true
+  pub at-resent : At resent Sent Idle (messageFirst ∷ messageFirst ∷ []) []
+  pub at-repeated : At repeated Sent Half (messageFirst ∷ messageFirst ∷ []) (messageSecond ∷ messageSecond ∷ [])
+  pub at-halfway : At halfway Open Half (messageThird ∷ messageFirst ∷ messageFirst ∷ []) (messageSecond ∷ messageSecond ∷ [])
+  pub at-opened : At opened Open Open (messageThird ∷ messageFirst ∷ messageFirst ∷ []) (messageSecond ∷ messageSecond ∷ [])
+  pub at-forsaken : At forsaken Open GivenUp (messageThird ∷ messageFirst ∷ messageFirst ∷ [])
+      (messageSecond ∷ messageSecond ∷ messageSecond ∷ messageSecond ∷ messageSecond ∷ [])
+  pub both-agreed : agreedAt opened ≡ agreement ∷ agreement ∷ []
 
 pub computed : Computed
-unfolding start bookOne bookTwo firstIdentity secondIdentity nonceOne nonceTwo buffer filled messageFirst messageSecond messageThird trace after FairTrace
-    called
+unfolding start bookOne bookTwo firstIdentity secondIdentity nonceOne nonceTwo buffer filled called after
     numberAt bytesOf head headed allZero equal paste
     attributes.sentFixed attributes.attributeType attributes.attributeSize attributes.afterAttribute coding.outOfBounds attributes.find attributes.attribute
     coding.mustBeFixed coding.fixedWrong coding.isDuration coding.durationWrong coding.attributeCode coding.attributesFrom coding.attributesCode
@@ -174,15 +238,140 @@ computed = record {
     none-first = refl;
     none-second = refl;
   };
-  fair = (omega arith, (tt, (λ t. here refl, (λ t. here refl, (λ t. here refl, (λ t. here refl, tt))))));
-  first-open = refl;
-  second-open = refl;
-  first-values = refl;
-  second-values = refl;
-  from-first = refl;
-  from-second = refl;
+  begin-sends = refl;
+  second-chooses = refl;
+  one-equals = refl;
+  two-equals = refl;
+  three-equals = refl;
+  at-resent = record { shows = refl };
+  at-repeated = record { shows = refl };
+  at-halfway = record { shows = refl };
+  at-opened = record { shows = refl };
+  at-forsaken = record { shows = refl };
+  both-agreed = refl;
 }
 
--- two fresh ends, a run that the premise allows, and both open at its end
-pub reached : (w : World) × (u : World) × Fresh w × Run w u × (stateOf (u .initiator) ≡ Open) × (stateOf (u .responder) ≡ Open)
-reached = (start, after start trace, computed .starts-fresh, fair-run trace rest (computed .fair), computed .first-open, computed .second-open)
+-- ---- what a moment shows, one by one
+
+full-size : (p : Party) → length (p .sent) ≡ 2048 → length (p .got) ≡ 2048 → FullSize p buffer
+unfolding buffer
+full-size p a b = record { in-sent = omega arith; in-got = omega arith; in-output = omega (arith, length-replicate {A = ℕ} 2048 0) }
+
+module _ {w : World} {first second : State} {fromFirst fromSecond : List (List ℕ)} (at : At w first second fromFirst fromSecond) where
+  pub first-is : stateOf (w .initiator) ≡ first
+  first-is = ap (λ (s : Seen). s .first) (at .shows)
+
+  pub second-is : stateOf (w .responder) ≡ second
+  second-is = ap (λ (s : Seen). s .second) (at .shows)
+
+  first-full : FullSize (w .initiator) buffer
+  first-full = full-size (w .initiator) (ap (λ (s : Seen). s .firstSent) (at .shows)) (ap (λ (s : Seen). s .firstGot) (at .shows))
+
+  second-full : FullSize (w .responder) buffer
+  second-full = full-size (w .responder) (ap (λ (s : Seen). s .secondSent) (at .shows)) (ap (λ (s : Seen). s .secondGot) (at .shows))
+
+  first-wrote : w .fromInitiator ≡ fromFirst
+  first-wrote = ap (λ (s : Seen). s .fromFirst) (at .shows)
+
+  second-wrote : w .fromResponder ≡ fromSecond
+  second-wrote = ap (λ (s : Seen). s .fromSecond) (at .shows)
+
+-- each message that arrives was written last, apart from the hash
+heard-last : {m : List ℕ} {log logged : List (List ℕ)} → logged ≡ m ∷ log → shapes.alike (filled m) m ≡ true → Heard (filled m) logged
+heard-last e same = rw e (here same)
+
+one-heard : Heard (filled messageFirst) (resent .fromInitiator)
+one-heard = heard-last (first-wrote (computed .at-resent)) (computed .one-equals)
+
+two-heard : Heard (filled messageSecond) (repeated .fromResponder)
+two-heard = heard-last (second-wrote (computed .at-repeated)) (computed .two-equals)
+
+three-heard : Heard (filled messageThird) (halfway .fromInitiator)
+three-heard = heard-last (first-wrote (computed .at-halfway)) (computed .three-equals)
+
+-- ---- the runs to these moments
+
+pub to-halfway : Run start halfway
+unfolding after
+to-halfway =
+    goes (goes (goes (goes (goes rest beginFirst (omega arith)) tickFirst tt) deliverOne (λ t. one-heard)) deliverOne (λ t. one-heard))
+    deliverTwo
+    (λ t. two-heard)
+
+pub to-opened : Run start opened
+unfolding after
+to-opened = goes to-halfway deliverThree (λ t. three-heard)
+
+pub to-forsaken : Run start forsaken
+unfolding after
+to-forsaken = goes (goes (goes (goes to-halfway tickSecond tt) tickSecond tt) tickSecond tt) tickSecond tt
+
+-- ---- the same exchange as a begin, a choice, and the arrival of three messages
+
+pub begin-passes : (number : ℕ) → called (start .initiator) (begin 7 firstIdentity secondIdentity buffer) .step .answer ≡ Refused number → ⊥
+begin-passes number e = let sends = computed .begin-sends in never (cc)
+
+abbrev pub beginning : Beginning start
+beginning = record {
+  moment = start;
+  run = rest;
+  id = 7;
+  first = firstIdentity;
+  second = secondIdentity;
+  output = buffer;
+  narrow = omega arith;
+  unrefused = begin-passes;
+}
+
+abbrev pub chooses : Chooses (start .responder .end .own) (oneOf beginning)
+chooses = record { number = agreement .set; line = record { 0 = 1 }; transforms = agreement .transforms; chosen = computed .second-chooses }
+
+-- what an arrival asks besides the bytes
+pub record Ready (m : List ℕ) (p : Party) : Type 0 where
+  pub equals : shapes.alike (filled m) m ≡ true
+  pub full : FullSize p buffer
+  pub up : stateOf p ≡ GivenUp → ⊥
+
+abbrev arrival : {m : List ℕ} {p : Party} → Ready m p → Arrives m p
+arrival {m} ready = record { bytes = filled m; output = buffer; equals = ready .equals; full = ready .full; up = ready .up }
+
+pub one-ready : Ready messageFirst (resent .responder)
+one-ready =
+    let idle = second-is (computed .at-resent) in
+    record { equals = computed .one-equals; full = second-full (computed .at-resent); up = λ e. never (cc) }
+
+pub two-ready : Ready messageSecond (repeated .initiator)
+two-ready =
+    let sent = first-is (computed .at-repeated) in
+    record { equals = computed .two-equals; full = first-full (computed .at-repeated); up = λ e. never (cc) }
+
+pub three-ready : Ready messageThird (halfway .responder)
+three-ready =
+    let half = second-is (computed .at-halfway) in
+    record { equals = computed .three-equals; full = second-full (computed .at-halfway); up = λ e. never (cc) }
+
+abbrev pub one-arrives : Arrives (oneOf beginning) (resent .responder)
+one-arrives = arrival one-ready
+
+abbrev pub two-arrives : Arrives (twoOf beginning chooses) (repeated .initiator)
+two-arrives = arrival two-ready
+
+abbrev pub three-arrives : Arrives (threeOf beginning) (halfway .responder)
+three-arrives = arrival three-ready
+
+-- what happens between: the tick, the second arrival of message one, and nothing
+pub one-lost : Run (afterBegin beginning) resent
+unfolding after
+one-lost = goes rest tickFirst tt
+
+pub one-again : Run (step resent (atSecond (delivery one-arrives))) repeated
+unfolding after
+one-again = goes rest deliverOne (λ t. one-heard)
+
+pub two-taken : Run (step repeated (atFirst (delivery two-arrives))) halfway
+unfolding after
+two-taken = rest
+
+pub three-taken : Run (step halfway (atSecond (delivery three-arrives))) opened
+unfolding after
+three-taken = rest
