@@ -15,6 +15,7 @@ pub mod Port4500
 pub mod Payloads
 pub mod Sets
 pub mod Choice
+pub mod PolicySuits
 pub mod Reply
 pub mod SequenceAnswers
 pub mod Sequence

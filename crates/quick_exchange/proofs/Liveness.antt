@@ -16,6 +16,7 @@ use Rattle.sa_sets.specs.Sets.{setNumbered}
 use Rattle.policy_choice.specs.Choice.{bodyAt, chooseFrom}
 use Rattle.policy_choice.specs.declared.Choice.the-variants.{Chosen}
 use Rattle.message_chain.specs.Message.{message}
+use Rattle.message_chain.specs.declared.Message.the-variants.{Read}
 use Rattle.quick_write.specs.Messages.{bookOf, lines, offerOf, messageOne, messageTwo, messageThree}
 use Rattle.quick_end.specs.Fresh.{isIdle, isInitiator, isGivenUp}
 use Rattle.quick_shape.specs.Shapes.{isLonger, alike, shapeOf}
@@ -506,6 +507,12 @@ module _ {w : World} (f : Fresh w) where
 
     first-written : Oldest (oneOf b) (afterBegin b .fromInitiator)
     first-written = subst (λ (log : List (List ℕ)). Oldest (oneOf b) log) (sym begin-writes) alone
+
+    -- it is read in a longer shape
+    pub one-longer : (count : ℕ) × (message (oneOf b) ≡ Read 32 count) × (isLonger (shapeOf (oneOf b)) ≡ true)
+    one-longer =
+        let l = one-read (always f rest .pair .fit-one) asks (oneOf b) (alike-same (oneOf b)) in
+        (payloadsWith (b .first), l .reads, ap isLonger (l .shape) ∙ longer-is (b .first))
 
     module _ (s : Chooses (w .responder .end .own) (oneOf b)) where
       -- message one arrives
