@@ -21,7 +21,7 @@ use Rattle.policy_lines.specs.Lines.{mainCount, quickCount, bookSize}
 use Rattle.policy_book.specs.Book.{bookInFront, bookRead}
 use Rattle.policy_book.specs.declared.Book.the-variants as books
 use Rattle.policy_suits.specs.Suiting.{Suits}
-use Rattle.policy_choice.specs.Choice.{lineCount, chosen, chooseFrom, bodyAt, saFrom, choice}
+use Rattle.policy_choice.specs.Choice.{lineCount, chooseFrom, bodyAt, saFrom, choice, choiceAnswer}
 use Rattle.policy_choice.specs.declared.Choice.{Choice}
 use Rattle.policy_choice.specs.declared.Choice.the-variants as choices
 use Rattle.policy_choice.proofs.ChoiceLaws.{body-reads}
@@ -40,6 +40,7 @@ use Rattle.quick_exchange.proofs.Fresh.{fresh-fit}
 use Rattle.quick_exchange.proofs.Moves.{second-is}
 use Rattle.quick_exchange.proofs.Liveness as liveness
 use Rattle.promises.specs.Choice.{Offer, NoneSuits, Best, choice-is, fourteen-means-none, none-means-fourteen, chosen-best}
+use Rattle.promises.specs.DemandThree.{suits-unrefused}
 
 -- ---- what is said
 
@@ -148,10 +149,10 @@ module _ {m : Bytes} (l : Longer m) (own : Own) (b : LawfulBook (bookOf own)) wh
       record { k = x .k; i = x .i; a-set = x .a-set; a-line = x .a-line; suits = x .suits }
 
   pub suits-chooses : SomeSuits 32 (bookOf own) (bodyAt 1 m) → Chooses own m
-  unfolding chosen
   suits-chooses u =
       let x = best (λ e. fourteen-none l b (same-choice l b ∙ e) (u .k) (u .i) (u .a-set) (u .a-line) (u .suits)) in
-      record { number = _; line = _; transforms = _; chosen = same-choice l b ∙ x .answered }
+      let answers = ap choiceAnswer (same-choice l b) ∙ x .answered in
+      suits-unrefused own m (λ number e. let some = ap (λ (a : Answer). a .values) (sym answers ∙ e) in never (cc))
 
 -- ---- the delivery of message one
 

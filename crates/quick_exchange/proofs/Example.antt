@@ -6,6 +6,7 @@ use mathlib.Core.List.{List, [], _∷_}
 use mathlib.Core.Bool.{true}
 use native.Mathlib.Omega.{arith}
 use lib.ListN.{length, replicate, length-replicate}
+use Rattle.wire_read.specs.Answer.{refused}
 use Rattle.wire_read.specs.Wire.{numberAt, allZero, equal}
 use Rattle.wire_read.specs.Parts as parts
 use Rattle.wire_read.proofs.Tests.{never}
@@ -43,8 +44,9 @@ use Rattle.quick_end.specs.declared.Spis.the-variants.{Both}
 use Rattle.quick_end.specs.declared.Agreed.{Agreed}
 use Rattle.quick_end.specs.declared.State.{State}
 use Rattle.quick_end.specs.declared.State.the-variants.{Idle, Sent, Half, Open, GivenUp}
-use Rattle.quick_step.specs.declared.StepAnswer.the-variants.{Send, Refused}
+use Rattle.quick_step.specs.declared.StepAnswer.the-variants.{Send}
 use Rattle.quick_exchange.specs.Exchange.{Party, begin, deliver, tick, called, World, Event, atFirst, atSecond, step, Heard, here, Run, rest, goes, Fresh, stateOf, agreedOf, FullSize, Beginning, afterBegin, Chooses, oneOf, twoOf, threeOf, Arrives, delivery}
+use Rattle.quick_exchange.proofs.Moves.{refused-is}
 
 -- the initiator's policy book has two quick lines: ESP alone, and AH with ESP, mode 1 and 3,600 seconds; the responder's has the second alone
 unfoldable pub bookOne : List ℕ
@@ -308,8 +310,8 @@ to-forsaken = goes (goes (goes (goes to-halfway tickSecond tt) tickSecond tt) ti
 
 -- ---- the same exchange as a begin, a choice, and the arrival of three messages
 
-pub begin-passes : (number : ℕ) → called (start .initiator) (begin 7 firstIdentity secondIdentity buffer) .step .answer ≡ Refused number → ⊥
-begin-passes number e = let sends = computed .begin-sends in never (cc)
+pub begin-passes : (number : ℕ) → steps.stepAnswer (called (start .initiator) (begin 7 firstIdentity secondIdentity buffer) .step .answer) ≡ refused number → ⊥
+begin-passes number e = let sends = computed .begin-sends in let is = refused-is _ number e in never (cc)
 
 abbrev pub beginning : Beginning start
 beginning = record {
