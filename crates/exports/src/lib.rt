@@ -1,8 +1,8 @@
 // The functions that another language calls: thin, on bytes and numbers; an answer of several parts is packed in one number.
 use message_chain::Message;
 use policy_choice::Choice;
-use policy_choice::LineNumber;
 use policy_choice::Transforms;
+use policy_lines::LineNumber;
 use sa_fields::ProposalNumber;
 use sequence_record::Receive;
 use sequence_record::Verdict;

@@ -16,7 +16,7 @@ use Rattle.policy_book.specs.declared.Book.the-variants as books
 use Rattle.sa_sets.specs.Sets.{setNumbered}
 use Rattle.sa_fields.specs.declared.ProposalNumber.{ProposalNumber}
 use Rattle.policy_choice.specs.Choice.{saFrom, messageChoice, bookChoice, choice}
-use Rattle.policy_choice.specs.declared.LineNumber.{LineNumber}
+use Rattle.policy_lines.specs.declared.LineNumber.{LineNumber}
 use Rattle.policy_choice.specs.declared.Transforms.{Transforms}
 use Rattle.policy_choice.specs.declared.Choice.{Choice}
 use Rattle.policy_choice.specs.declared.Choice.the-variants as choices

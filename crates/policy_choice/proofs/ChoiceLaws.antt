@@ -24,17 +24,18 @@ use Rattle.message_chain.specs.Message.{message, nth, walk, payloadAt}
 use Rattle.message_chain.specs.declared.Payload.{Payload}
 use Rattle.message_chain.specs.declared.Message.the-variants as read
 use Rattle.message_chain.proofs.Laws.{reading-found, read-as}
+use Rattle.policy_lines.specs.Lines.{lineAt}
+use Rattle.policy_lines.specs.declared.LineNumber.{LineNumber}
 use Rattle.policy_suits.specs.Suits.{lowest}
 use Rattle.policy_suits.proofs.Laws.{Passes, Passed, suits-passed}
 use Rattle.policy_suits.proofs.SuitLaws.{chosenIn, taken}
 use Rattle.policy_book.specs.Book.{bookRead}
 use Rattle.policy_book.specs.declared.Book.{Book}
 use Rattle.policy_book.specs.declared.Book.the-variants as books
-use Rattle.policy_choice.specs.declared.LineNumber.{LineNumber}
 use Rattle.policy_choice.specs.declared.Choice.{Choice}
 use Rattle.policy_choice.specs.declared.Choice.the-variants.{Refused, Chosen}
 use Rattle.policy_choice.specs.declared.Transforms.{Transforms}
-use Rattle.policy_choice.specs.Choice.{numberOf, transformsOf, chosen, chooseFrom, lineCount, bodyAt, saFrom, messageChoice, bookChoice, choice}
+use Rattle.policy_choice.specs.Choice.{numberOf, lowestNumber, transformsOf, chosen, chooseFrom, lineCount, bodyAt, saFrom, messageChoice, bookChoice, choice}
 use Rattle.policy_choice.proofs.Laws.{Choosing, fourteen, chose, choosing}
 
 -- ---- a payload's body lies within its message
@@ -114,7 +115,7 @@ sa-in-front m first lies =
 
 -- the number that names the lowest transform finds it
 pub taken-by-number : (exchange i : ℕ) (book p : List ℕ) → Item exchange p → Passes exchange i book p →
-    transformNumbered (numberOf (lowest exchange i book p) p) p ≡ chosenIn exchange i book p
+    transformNumbered (lowestNumber exchange i book p) p ≡ chosenIn exchange i book p
 unfolding numberOf
 taken-by-number exchange i book p item some =
     transform-by-number exchange p item (lowest exchange i book p - 1) (taken exchange i book p item some .0)
@@ -159,7 +160,7 @@ module _ (exchange count : ℕ) (book m : List ℕ) (readable : message m ≡ re
         let reads = sa-reads m exchange count readable some in
         let a-set : j < setCount body = omega arith in
         let same : proposalNumber (proposal 0 (set j body)) ≡ number = cc in
-        let same-line : record { 0 = i + 1 } ≡ line = cc in
+        let same-line : lineAt i ≡ line = cc in
         let place : i + 1 - 1 ≡ i = omega arith in
         let taken : transformsOf exchange (i + 1 - 1) book (set j body) ≡ transforms = cc in
         record {

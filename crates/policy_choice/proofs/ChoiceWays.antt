@@ -6,7 +6,7 @@ use mathlib.Core.Bool.{Bool, true, false, _&&_}
 use native.Mathlib.Omega.{arith}
 use lib.ListN.{length, getD, take, drop}
 use lib.Dec.{eqb}
-use borrow.Author.Tests.{eq-eqb, ne-eqb}
+use borrow.Author.Tests.{eq-eqb, ne-eqb, leb-false}
 use Rattle.wire_read.specs.Tests.{if_then_else_}
 use Rattle.wire_read.proofs.Tests.{never}
 use Rattle.message_chain.specs.Message.{message, payloadAt}
@@ -18,10 +18,14 @@ use Rattle.sa_items.specs.Items.{proposal, proposalCount, transform}
 use Rattle.sa_fields.specs.Fields.{proposalNumber, transformNumber}
 use Rattle.sa_fields.specs.declared.ProposalNumber.{ProposalNumber}
 use Rattle.sa_fields.specs.declared.TransformNumber.{TransformNumber}
-use Rattle.policy_lines.specs.Lines.{mainCount, quickCount, bookSize}
+use Rattle.policy_lines.specs.Lines.{place, lineAt, mainCount, quickCount, bookSize}
+use Rattle.policy_lines.specs.declared.LineNumber.{LineNumber}
 use Rattle.policy_book.specs.Book.{bookInFront, bookRead}
-use Rattle.policy_suits.specs.Suits.{lowest, setSuits}
-use Rattle.policy_choice.specs.Choice.{lineCount, lineFrom, firstLine, numberOf, transformsOf, chosen, setFrom, chooseFrom, bodyAt, saFrom, messageRefusal, messageChoice, bookChoice, choice}
+use Rattle.policy_suits.specs.Suits.{lowest, lowestTransform, setSuits}
+use Rattle.policy_suits.proofs.Found.{none-found, lowest-found}
+use Rattle.policy_suits.specs.declared.SuitingTransform.{SuitingTransform}
+use Rattle.policy_suits.specs.declared.SuitingTransform.the-variants.{None, Lowest}
+use Rattle.policy_choice.specs.Choice.{lineCount, lineFrom, firstLine, numberOf, lowestNumber, transformsOf, chosen, setFrom, chooseFrom, bodyAt, saFrom, messageRefusal, messageChoice, bookChoice, choice}
 use Rattle.policy_book.specs.declared.Book.{Book}
 use Rattle.policy_book.specs.declared.Book.the-variants as books
 use Rattle.policy_choice.specs.declared.Transforms.{Transforms}
@@ -40,60 +44,66 @@ module _ (exchange : ℕ) (book : List ℕ) (n : ℕ) where
   unfolding lineCount
   count-quick h e = rw (ne-eqb exchange 2 h) e
 
-line-step : (n i exchange : ℕ) (book s : List ℕ) → (n ≡ 0 → ⊥) →
-    lineFrom n i exchange book s ≡ (if setSuits exchange i book s then i + 1 else lineFrom (n - 1) (i + 1) exchange book s)
+line-step : (n : ℕ) (last line : LineNumber) (exchange : ℕ) (book s : List ℕ) → (n ≡ 0 → ⊥) → line ≡ lineAt (last .0) →
+    lineFrom n last exchange book s ≡ (if setSuits exchange (place line) book s then line else lineFrom (n - 1) line exchange book s)
 unfolding lineFrom
-line-step zero i exchange book s h = absurd (h refl)
-line-step (suc n) i exchange book s h = let e : suc n - 1 ≡ n = omega arith in rw e
+line-step zero last line exchange book s h el = absurd (h refl)
+line-step (suc n) last line exchange book s h el =
+    let e : suc n - 1 ≡ n = omega arith in
+    let back : place (lineAt (last .0)) ≡ last .0 = omega arith in
+    rw (el, e, back)
 
-module _ (n i exchange : ℕ) (book s : List ℕ) where
-  pub line-none : n ≡ 0 → 0 ≡ lineFrom n i exchange book s
+module _ (n : ℕ) (last : LineNumber) (exchange : ℕ) (book s : List ℕ) where
+  pub line-none : n ≡ 0 → record { 0 = 0 } ≡ lineFrom n last exchange book s
   unfolding lineFrom
   line-none z = rw z
 
-  module _ (some : n ≡ 0 → ⊥) (b : Bool) (eb : b ≡ setSuits exchange i book s) where
-    pub line-here : b ≡ true → i + 1 ≡ lineFrom n i exchange book s
-    line-here h = rw (line-step n i exchange book s some, ← eb, h)
+  module _ (some : n ≡ 0 → ⊥) (line : LineNumber) (el : line ≡ lineAt (last .0)) (b : Bool) (eb : b ≡ setSuits exchange (place line) book s) where
+    pub line-here : b ≡ true → line ≡ lineFrom n last exchange book s
+    line-here h = rw (line-step n last line exchange book s some el, ← eb, h)
 
-    pub line-on : b ≡ false → (r : ℕ) → r ≡ lineFrom (n - 1) (i + 1) exchange book s → r ≡ lineFrom n i exchange book s
-    line-on h r e = rw (line-step n i exchange book s some, ← eb, h) e
+    pub line-on : b ≡ false → (r : LineNumber) → r ≡ lineFrom (n - 1) line exchange book s → r ≡ lineFrom n last exchange book s
+    line-on h r e = rw (line-step n last line exchange book s some el, ← eb, h) e
 
-pub line-first : (exchange n r : ℕ) (book s : List ℕ) → n ≡ lineCount exchange book → r ≡ lineFrom n 0 exchange book s → r ≡ firstLine exchange book s
+pub line-first : (exchange n : ℕ) (r : LineNumber) (book s : List ℕ) → n ≡ lineCount exchange book → r ≡ lineFrom n (record { 0 = 0 }) exchange book s →
+    r ≡ firstLine exchange book s
 unfolding firstLine
 line-first exchange n r book s en er = rw (← en) er
 
 -- ---- transforms
 
-pub number-taken : (k before : ℕ) (p t : List ℕ) (r : TransformNumber) → before ≡ k - 1 → t ≡ transform before p → r ≡ transformNumber t → r ≡ numberOf k p
-unfolding numberOf
-number-taken k before p t r eb et er = rw (← eb, ← et) er
+module _ (exchange i : ℕ) (book p : List ℕ) (found : SuitingTransform) (ef : found ≡ lowestTransform exchange i book p) where
+  pub number-none : found ≡ None → (t : List ℕ) (r : TransformNumber) → t ≡ transform 0 p → r ≡ transformNumber t → r ≡ lowestNumber exchange i book p
+  unfolding numberOf
+  number-none h t r et er =
+      let none = leb-false 1 (lowest exchange i book p) (none-found exchange i book p (sym ef ∙ h)) in
+      let first : lowest exchange i book p - 1 ≡ 0 = omega (arith, none) in
+      rw (first, ← et) er
 
-module _ (exchange i : ℕ) (book s p : List ℕ) (low : ℕ) (first : TransformNumber) (count : ℕ) (ep : p ≡ proposal 0 s)
-    (el : low ≡ lowest exchange i book p) (ef : first ≡ numberOf low p) (ec : count ≡ proposalCount s) where
-  is : numberOf (lowest exchange i book (proposal 0 s)) (proposal 0 s) ≡ first
-  is = cc
+  pub number-lowest : (number : TransformNumber) → found ≡ Lowest number → number ≡ lowestNumber exchange i book p
+  unfolding numberOf
+  number-lowest number h = lowest-found exchange i book p number (sym ef ∙ h) .1
 
+module _ (exchange i : ℕ) (book s p : List ℕ) (first : TransformNumber) (count : ℕ) (ep : p ≡ proposal 0 s) (ef : first ≡ lowestNumber exchange i book p)
+    (ec : count ≡ proposalCount s) where
   pub transforms-one : count ≡ 1 → One first ≡ transformsOf exchange i book s
   unfolding transformsOf
-  transforms-one h = rw (← ec, eq-eqb count 1 h, is)
+  transforms-one h = rw (← ec, eq-eqb count 1 h, ← ep, ← ef)
 
-  pub transforms-two : (count ≡ 1 → ⊥) → (q : List ℕ) (low2 : ℕ) (second : TransformNumber) → q ≡ proposal 1 s → low2 ≡ lowest exchange i book q →
-      second ≡ numberOf low2 q → Two first second ≡ transformsOf exchange i book s
+  pub transforms-two : (count ≡ 1 → ⊥) → (q : List ℕ) (second : TransformNumber) → q ≡ proposal 1 s → second ≡ lowestNumber exchange i book q →
+      Two first second ≡ transformsOf exchange i book s
   unfolding transformsOf
-  transforms-two h q low2 second eq el2 es =
-      let is2 : numberOf (lowest exchange i book (proposal 1 s)) (proposal 1 s) ≡ second = cc in
-      rw (← ec, ne-eqb count 1 h, is, is2)
+  transforms-two h q second eq es = rw (← ec, ne-eqb count 1 h, ← ep, ← ef, ← eq, ← es)
 
 -- ---- sets
 
-pub set-chosen : (exchange line i : ℕ) (book s p : List ℕ) (number : ProposalNumber) (transforms : Transforms) → p ≡ proposal 0 s →
-    number ≡ proposalNumber p → i ≡ line - 1 → transforms ≡ transformsOf exchange i book s →
-    Chosen number (record { 0 = line }) transforms ≡ chosen exchange line book s
+pub set-chosen : (exchange : ℕ) (line : LineNumber) (book s p : List ℕ) (number : ProposalNumber) (transforms : Transforms) → p ≡ proposal 0 s →
+    number ≡ proposalNumber p → transforms ≡ transformsOf exchange (place line) book s → Chosen number line transforms ≡ chosen exchange line book s
 unfolding chosen
-set-chosen exchange line i book s p number transforms ep en ei et = rw (← ep, ← en, ← ei, ← et)
+set-chosen exchange line book s p number transforms ep en et = rw (← ep, ← en, ← et)
 
 set-step : (n k exchange : ℕ) (book body : List ℕ) → (n ≡ 0 → ⊥) →
-    setFrom n k exchange book body ≡ (if eqb (firstLine exchange book (set k body)) 0 then setFrom (n - 1) (k + 1) exchange book body
+    setFrom n k exchange book body ≡ (if eqb (firstLine exchange book (set k body) .0) 0 then setFrom (n - 1) (k + 1) exchange book body
     else chosen exchange (firstLine exchange book (set k body)) book (set k body))
 unfolding setFrom
 set-step zero k exchange book body h = absurd (h refl)
@@ -104,12 +114,12 @@ module _ (n k exchange : ℕ) (book body : List ℕ) where
   unfolding setFrom
   sets-none z = rw z
 
-  module _ (some : n ≡ 0 → ⊥) (s : List ℕ) (line : ℕ) (r : Choice) (es : s ≡ set k body) (el : line ≡ firstLine exchange book s) where
-    pub sets-on : line ≡ 0 → r ≡ setFrom (n - 1) (k + 1) exchange book body → r ≡ setFrom n k exchange book body
-    sets-on h e = rw (set-step n k exchange book body some, ← es, ← el, eq-eqb line 0 h) e
+  module _ (some : n ≡ 0 → ⊥) (s : List ℕ) (line : LineNumber) (r : Choice) (es : s ≡ set k body) (el : line ≡ firstLine exchange book s) where
+    pub sets-on : line .0 ≡ 0 → r ≡ setFrom (n - 1) (k + 1) exchange book body → r ≡ setFrom n k exchange book body
+    sets-on h e = rw (set-step n k exchange book body some, ← es, ← el, eq-eqb (line .0) 0 h) e
 
-    pub sets-here : (line ≡ 0 → ⊥) → r ≡ chosen exchange line book s → r ≡ setFrom n k exchange book body
-    sets-here h e = rw (set-step n k exchange book body some, ← es, ← el, ne-eqb line 0 h) e
+    pub sets-here : (line .0 ≡ 0 → ⊥) → r ≡ chosen exchange line book s → r ≡ setFrom n k exchange book body
+    sets-here h e = rw (set-step n k exchange book body some, ← es, ← el, ne-eqb (line .0) 0 h) e
 
 pub sets-all : (exchange n : ℕ) (book body : List ℕ) (r : Choice) → n ≡ setCount body → r ≡ setFrom n 0 exchange book body → r ≡ chooseFrom exchange book body
 unfolding chooseFrom

@@ -9,6 +9,8 @@ use borrow.Author.Tests.{ne-eqb, leb-true, leb-false}
 use Rattle.wire_read.specs.Tests.{if_then_else_}
 use Rattle.wire_read.proofs.Tests.{by-test}
 use Rattle.sa_sets.specs.Sets.{set, setCount}
+use Rattle.policy_lines.specs.Lines.{lineAt}
+use Rattle.policy_lines.specs.declared.LineNumber.{LineNumber}
 use Rattle.policy_suits.specs.Suits.{setSuits}
 use Rattle.policy_suits.proofs.Laws.{First, none, here, firstFrom, first-from}
 use Rattle.policy_choice.specs.Choice.{lineCount, lineFrom, firstLine, chosen, setFrom, chooseFrom}
@@ -18,14 +20,15 @@ use Rattle.policy_choice.specs.declared.Choice.the-variants.{Refused}
 -- ---- the first line
 
 module _ (exchange : ℕ) (book s : List ℕ) where
-  line-first : (n i : ℕ) → firstFrom (λ j. setSuits exchange j book s) n i ≡ lineFrom n i exchange book s
+  line-first : (n : ℕ) (last : LineNumber) → firstFrom (λ j. setSuits exchange j book s) n (last .0) ≡ lineFrom n last exchange book s .0
   unfolding firstFrom lineFrom
-  line-first zero i = refl
-  line-first (suc n) i = rw (line-first n (i + 1))
+  line-first zero last = refl
+  line-first (suc n) last =
+      by-test (setSuits exchange (last .0) book s) (λ e. rw e) (λ e. rw e (line-first n (lineAt (last .0))))
 
-  pub line-is : First (λ j. setSuits exchange j book s) (lineCount exchange book) 0 (firstLine exchange book s)
+  pub line-is : First (λ j. setSuits exchange j book s) (lineCount exchange book) 0 (firstLine exchange book s .0)
   unfolding firstLine
-  line-is = rw (← line-first (lineCount exchange book) 0) (first-from (λ j. setSuits exchange j book s) (lineCount exchange book) 0)
+  line-is = rw (← line-first (lineCount exchange book) (record { 0 = 0 })) (first-from (λ j. setSuits exchange j book s) (lineCount exchange book) 0)
 
 -- ---- the choice among the sets
 
@@ -38,7 +41,7 @@ pub data Choosing (exchange : ℕ) (book body : List ℕ) (n k : ℕ) : Choice �
   fourteen : ((j : ℕ) → k ≤ j → j < k + n → NoLine exchange book (set j body)) → Choosing exchange book body n k (Refused 14)
   chose : (j i : ℕ) → k ≤ j → j < k + n → i < lineCount exchange book → setSuits exchange i book (set j body) ≡ true →
       ((l : ℕ) → k ≤ l → l < j → NoLine exchange book (set l body)) → ((l : ℕ) → l < i → setSuits exchange l book (set j body) ≡ false) →
-      Choosing exchange book body n k (chosen exchange (i + 1) book (set j body))
+      Choosing exchange book body n k (chosen exchange (lineAt i) book (set j body))
 
 module _ (exchange : ℕ) (book body : List ℕ) where
   -- a set that no line suits goes before
@@ -55,7 +58,7 @@ module _ (exchange : ℕ) (book body : List ℕ) where
 
   step : (n k : ℕ) {line : ℕ} (r : Choice) → First (λ i. setSuits exchange i book (set k body)) (lineCount exchange book) 0 line →
       Choosing exchange book body n (k + 1) r →
-      Choosing exchange book body (suc n) k (if eqb line 0 then r else chosen exchange line book (set k body))
+      Choosing exchange book body (suc n) k (if eqb line 0 then r else chosen exchange (record { 0 = line }) book (set k body))
   step n k r (none f) c = goes-on n k (λ i h. f i (omega arith) (omega arith)) c
   step n k r (here i h l t f) c =
       rw (ne-eqb (i + 1) 0 (λ e. omega arith))

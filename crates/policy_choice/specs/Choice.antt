@@ -14,7 +14,8 @@ use Rattle.sa_fields.specs.Fields.{proposalNumber, transformNumber}
 use Rattle.sa_sets.specs.Sets.{set, setCount}
 use Rattle.sa_items.specs.Items.{proposal, proposalCount, transform}
 use Rattle.sa_fields.specs.declared.TransformNumber.{TransformNumber}
-use Rattle.policy_lines.specs.Lines.{mainCount, quickCount}
+use Rattle.policy_lines.specs.Lines.{place, lineAt, mainCount, quickCount}
+use Rattle.policy_lines.specs.declared.LineNumber.{LineNumber}
 use Rattle.policy_book.specs.Book.{bookRead}
 use Rattle.policy_book.specs.declared.Book.{Book}
 use Rattle.policy_book.specs.declared.Book.the-variants as books
@@ -28,33 +29,39 @@ use Rattle.policy_choice.specs.declared.Choice.the-variants.{Refused, Ch
 unfoldable pub lineCount : (exchange : ℕ) (book : Bytes) → ℕ
 lineCount exchange book = if eqb exchange 2 then mainCount book else quickCount book
 
--- "first line" that the set s suits: counted from 1 among the n from i on; 0 where there is none
-unfoldable pub lineFrom : (n i exchange : ℕ) (book s : Bytes) → ℕ
-lineFrom zero i exchange book s = 0
-lineFrom (suc n) i exchange book s = if setSuits exchange i book s then i + 1 else lineFrom n (i + 1) exchange book s
+-- "first line" that the set s suits, of the n lines behind the last that was asked, whose number is the place of the next; line 0 where
+-- there is none
+unfoldable pub lineFrom : (n : ℕ) (last : LineNumber) (exchange : ℕ) (book s : Bytes) → LineNumber
+lineFrom zero last exchange book s = record { 0 = 0 }
+lineFrom (suc n) last exchange book s =
+    if setSuits exchange (last .0) book s then lineAt (last .0)
+    else lineFrom n (lineAt (last .0)) exchange book s
 
-unfoldable pub firstLine : (exchange : ℕ) (book s : Bytes) → ℕ
-firstLine exchange book s = lineFrom (lineCount exchange book) 0 exchange book s
+unfoldable pub firstLine : (exchange : ℕ) (book s : Bytes) → LineNumber
+firstLine exchange book s = lineFrom (lineCount exchange book) (record { 0 = 0 }) exchange book s
 
--- the number of transform k of a proposal, counted from 1
+-- the number of transform k of a proposal, counted from 1, and of the lowest that suits line i
 unfoldable pub numberOf : (k : ℕ) (p : Bytes) → TransformNumber
 numberOf k p = transformNumber (transform (k - 1) p)
+
+abbrev pub lowestNumber : (exchange i : ℕ) (book p : Bytes) → TransformNumber
+lowestNumber exchange i book p = numberOf (lowest exchange i book p) p
 
 -- "then lowest transform in each proposal" of the set s, in the offer's order
 unfoldable pub transformsOf : (exchange i : ℕ) (book s : Bytes) → Transforms
 transformsOf exchange i book s =
-    if eqb (proposalCount s) 1 then One (numberOf (lowest exchange i book (proposal 0 s)) (proposal 0 s))
-    else Two (numberOf (lowest exchange i book (proposal 0 s)) (proposal 0 s)) (numberOf (lowest exchange i book (proposal 1 s)) (proposal 1 s))
+    if eqb (proposalCount s) 1 then One (lowestNumber exchange i book (proposal 0 s))
+    else Two (lowestNumber exchange i book (proposal 0 s)) (lowestNumber exchange i book (proposal 1 s))
 
--- what is answered where the set s is chosen by this line, counted from 1
-unfoldable pub chosen : (exchange line : ℕ) (book s : Bytes) → Choice
-chosen exchange line book s = Chosen (proposalNumber (proposal 0 s)) (record { 0 = line }) (transformsOf exchange (line - 1) book s)
+-- what is answered where the set s is chosen by this line
+unfoldable pub chosen : (exchange : ℕ) (line : LineNumber) (book s : Bytes) → Choice
+chosen exchange line book s = Chosen (proposalNumber (proposal 0 s)) line (transformsOf exchange (place line) book s)
 
 -- "first set": of the n from k on, "then 14"
 unfoldable pub setFrom : (n k exchange : ℕ) (book body : Bytes) → Choice
 setFrom zero k exchange book body = Refused 14
 setFrom (suc n) k exchange book body =
-    if eqb (firstLine exchange book (set k body)) 0 then setFrom n (k + 1) exchange book body
+    if eqb (firstLine exchange book (set k body) .0) 0 then setFrom n (k + 1) exchange book body
     else chosen exchange (firstLine exchange book (set k body)) book (set k body)
 
 unfoldable pub chooseFrom : (exchange : ℕ) (book body : Bytes) → Choice

@@ -1,12 +1,13 @@
 // The choice: first set, then first line, then lowest transform in each proposal.
 use crate::Choice;
-use crate::LineNumber;
 use crate::Transforms;
 use message_chain::Message;
 use message_chain::payload_at;
 use policy_book::Book;
 use policy_book::read_book;
+use policy_lines::LineNumber;
 use policy_lines::quick_count;
+use policy_suits::SuitingTransform;
 use policy_suits::lowest;
 use policy_suits::set_suits;
 use sa_fields::TransformNumber;
@@ -21,8 +22,9 @@ use wire_read::after;
 use wire_read::byte;
 use wire_read::front;
 ghost use mathlib.Core.Path.{_≡_};
-ghost use Prim.Native.Nat.{_+_, _-_, _≤_};
-ghost use Rattle.policy_choice.specs.Choice.{lineCount, lineFrom, firstLine, numberOf, transformsOf, chosen, setFrom, chooseFrom, bodyAt, saFrom, messageRefusal, choice};
+ghost use Prim.Native.Nat.{_+_, _≤_};
+ghost use Rattle.policy_lines.specs.Lines.{place};
+ghost use Rattle.policy_choice.specs.Choice.{lineCount, lineFrom, firstLine, lowestNumber, transformsOf, chosen, setFrom, chooseFrom, bodyAt, saFrom, messageRefusal, choice};
 
 fn line_count(exchange: u8, book: &[u8]) -> u8
     ensures { λ r. ⌜ r ≡ lineCount exchange (now (book .entry)) ⌝ }
@@ -34,56 +36,53 @@ fn line_count(exchange: u8, book: &[u8]) -> u8
     }
 }
 
-fn line_from(n: u8, i: u8, exchange: u8, book: &[u8], s: &[u8]) -> u8
-    requires { ⌜ n + i ≤ 255 ⌝ }
-    ensures { λ r. ⌜ r ≡ lineFrom n i exchange (now (book .entry)) (now (s .entry)) ⌝ }
+// The first line that a set suits of the n lines behind the last that was asked; line 0 where it suits none.
+fn line_from(n: u8, last: LineNumber, exchange: u8, book: &[u8], s: &[u8]) -> LineNumber
+    requires { ⌜ n + last .0 ≤ 255 ⌝ }
+    ensures { λ r. ⌜ r ≡ lineFrom n last exchange (now (book .entry)) (now (s .entry)) ⌝ }
 {
     if n == 0 {
-        return 0;
+        return LineNumber(0);
     }
-    if set_suits(exchange, i, book, s) {
-        return i + 1;
+    let line = LineNumber(last.0 + 1);
+    if set_suits(exchange, line, book, s) {
+        return line;
     }
-    line_from(n - 1, i + 1, exchange, book, s)
+    line_from(n - 1, line, exchange, book, s)
 }
 
-// The first line that a set suits, counted from 1; 0 where it suits none.
-fn first_line(exchange: u8, book: &[u8], s: &[u8]) -> u8
+fn first_line(exchange: u8, book: &[u8], s: &[u8]) -> LineNumber
     ensures { λ r. ⌜ r ≡ firstLine exchange (now (book .entry)) (now (s .entry)) ⌝ }
 {
-    line_from(line_count(exchange, book), 0, exchange, book, s)
+    line_from(line_count(exchange, book), LineNumber(0), exchange, book, s)
 }
 
-fn before(k: u8) -> u8
-    ensures { λ r. ⌜ r ≡ k - 1 ⌝ }
+// Asked of a proposal that has a suiting transform; of any other it is the number of the first.
+fn lowest_number(exchange: u8, line: LineNumber, book: &[u8], p: &[u8]) -> TransformNumber
+    ensures { λ r. ⌜ r ≡ lowestNumber exchange (place line) (now (book .entry)) (now (p .entry)) ⌝ }
 {
-    if k == 0 { 0 } else { k - 1 }
+    let found = lowest(exchange, line, book, p);
+    match found {
+        SuitingTransform::None => transform_number(transform(0, p)),
+        SuitingTransform::Lowest(number) => number,
+    }
 }
 
-fn number_of(k: u8, p: &[u8]) -> TransformNumber
-    ensures { λ r. ⌜ r ≡ numberOf k (now (p .entry)) ⌝ }
+fn transforms_of(exchange: u8, line: LineNumber, book: &[u8], s: &[u8]) -> Transforms
+    ensures { λ r. ⌜ r ≡ transformsOf exchange (place line) (now (book .entry)) (now (s .entry)) ⌝ }
 {
-    transform_number(transform(before(k), p))
-}
-
-fn transforms_of(exchange: u8, i: u8, book: &[u8], s: &[u8]) -> Transforms
-    ensures { λ r. ⌜ r ≡ transformsOf exchange i (now (book .entry)) (now (s .entry)) ⌝ }
-{
-    let p = proposal(0, s);
-    let first = number_of(lowest(exchange, i, book, p), p);
+    let first = lowest_number(exchange, line, book, proposal(0, s));
     if proposal_count(s) == 1 {
         return Transforms::One(first);
     }
-    let q = proposal(1, s);
-    Transforms::Two(first, number_of(lowest(exchange, i, book, q), q))
+    Transforms::Two(first, lowest_number(exchange, line, book, proposal(1, s)))
 }
 
-fn chosen(exchange: u8, line: u8, book: &[u8], s: &[u8]) -> Choice
+fn chosen(exchange: u8, line: LineNumber, book: &[u8], s: &[u8]) -> Choice
     ensures { λ r. ⌜ r ≡ chosen exchange line (now (book .entry)) (now (s .entry)) ⌝ }
 {
     let number = proposal_number(proposal(0, s));
-    let transforms = transforms_of(exchange, before(line), book, s);
-    Choice::Chosen(number, LineNumber(line), transforms)
+    Choice::Chosen(number, line, transforms_of(exchange, line, book, s))
 }
 
 fn set_from(n: u8, k: u8, exchange: u8, book: &[u8], body: &[u8]) -> Choice
@@ -95,7 +94,7 @@ fn set_from(n: u8, k: u8, exchange: u8, book: &[u8], body: &[u8]) -> Choice
     }
     let s = set(k, body);
     let line = first_line(exchange, book, s);
-    if line == 0 {
+    if line.0 == 0 {
         return set_from(n - 1, k + 1, exchange, book, body);
     }
     chosen(exchange, line, book, s)

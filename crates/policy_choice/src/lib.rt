@@ -1,11 +1,9 @@
 // The choice: the first set, the first line that it suits, the lowest transform in each proposal.
 pub mod choose;
 
+use policy_lines::LineNumber;
 use sa_fields::ProposalNumber;
 use sa_fields::TransformNumber;
-
-// Policy lines are counted from 1 among the main lines or among the quick lines.
-pub struct LineNumber(pub u8);
 
 // A chosen transform for each proposal of the set, in the offer's order.
 pub enum Transforms {

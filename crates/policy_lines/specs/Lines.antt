@@ -1,7 +1,15 @@
 -- The lines of a policy book, document 01, "Policy book and choice": a count byte, main lines, a count byte, quick lines.
-use Prim.Native.Nat.{ℕ, _+_, _*_}
+use Prim.Native.Nat.{ℕ, _+_, _-_, _*_}
 use lib.ListN.{getD}
 use Rattle.wire_read.specs.Wire.{Bytes, numberAt}
+use Rattle.policy_lines.specs.declared.LineNumber.{LineNumber}
+
+-- "policy line numbers" are counted from 1, the places of the lines from 0
+abbrev pub place : (line : LineNumber) → ℕ
+place line = line .0 - 1
+
+abbrev pub lineAt : (i : ℕ) → LineNumber
+lineAt i = record { 0 = i + 1 }
 
 -- "a count byte 0 to 8", before each kind of line
 abbrev pub mainCount : (book : Bytes) → ℕ

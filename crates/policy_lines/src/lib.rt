@@ -4,6 +4,9 @@ use wire_read::byte;
 ghost use mathlib.Core.Path.{_≡_};
 ghost use Rattle.policy_lines.specs.Lines.{quickStart, quickCount, bookSize, mainSeconds, quickAt, quickProtocols, quickMode, quickSeconds};
 
+// Lines are counted from 1, among the main lines or among the quick lines; 0 is no line.
+pub struct LineNumber(pub u8);
+
 fn quick_start(book: &[u8]) -> u16
     ensures { λ r. ⌜ r ≡ quickStart (now (book .entry)) ⌝ }
 {

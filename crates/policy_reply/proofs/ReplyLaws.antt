@@ -31,7 +31,7 @@ use Rattle.sa_items.proofs.Laws.{transform-lawful}
 use Rattle.sa_sets.proofs.Places.{LawfulSet, OneSet, one-set}
 use Rattle.policy_reply.specs.Reply.{ownSpi, fields, proposalOf, proposalReply, setReply, saOf, spiLow, spisLow, setReplied, choiceReplied, replied}
 use Rattle.policy_reply.specs.declared.Outcome.the-variants.{Written}
-use Rattle.policy_choice.specs.declared.LineNumber.{LineNumber}
+use Rattle.policy_lines.specs.declared.LineNumber.{LineNumber}
 use Rattle.policy_choice.specs.declared.Choice.the-variants.{Chosen}
 use Rattle.policy_choice.specs.declared.Transforms.{Transforms}
 use Rattle.policy_choice.specs.declared.Transforms.the-variants.{One, Two}

@@ -18,7 +18,7 @@ use Rattle.sa_fields.specs.declared.TransformNumber.{TransformNumber}
 use Rattle.sa_items.proofs.Laws.{transform-within, two-within}
 use Rattle.policy_choice.specs.Choice.{saFrom, choice}
 use Rattle.policy_reply.specs.Reply.{ownSpi, fields, proposalOf, proposalReply, setReply, saOf, spiLow, spisLow, setReplied, choiceReplied, replied, choiceRefusal}
-use Rattle.policy_choice.specs.declared.LineNumber.{LineNumber}
+use Rattle.policy_lines.specs.declared.LineNumber.{LineNumber}
 use Rattle.policy_choice.specs.declared.Transforms.{Transforms}
 use Rattle.policy_choice.specs.declared.Transforms.the-variants.{One, Two}
 use Rattle.policy_choice.specs.declared.Choice.{Choice}

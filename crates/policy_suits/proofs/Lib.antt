@@ -3,4 +3,5 @@ pub mod SuitLaws
 pub mod SuitingLaws
 mod Exactly
 mod AttributeList
+pub mod Found
 mod SuitWays

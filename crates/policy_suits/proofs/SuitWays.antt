@@ -1,6 +1,6 @@
 -- A law for each way out of the functions on what suits.
 use Prim.Native.Nat.{ℕ, zero, suc, _+_, _-_}
-use mathlib.Core.Path.{_≡_, refl}
+use mathlib.Core.Path.{_≡_, refl, sym, _∙_}
 use mathlib.Core.List.{List}
 use mathlib.Core.Bool.{Bool, true, false, not, _&&_, _||_, and-false}
 use native.Mathlib.Omega.{arith}
@@ -9,15 +9,21 @@ use lib.ListN.{length, take, drop}
 use lib.Dec.{eqb, leb}
 use borrow.Author.Tests.{eq-eqb, ne-eqb, le-leb, not-true, not-false}
 use Rattle.wire_read.specs.Tests.{if_then_else_}
+use Rattle.wire_read.proofs.Tests.{by-test}
 use Rattle.wire_read.proofs.Parts.{skip-next}
 use Rattle.wire_read.specs.Wire.{numberAt}
 use Rattle.sa_proposals.specs.Proposals.{transformBytes}
 use Rattle.sa_attribute.specs.Attributes.{attribute, value}
-use Rattle.sa_fields.specs.Fields.{transformId, transformCount, attributesOf, protocol}
+use Rattle.sa_fields.specs.Fields.{transformNumber, transformId, transformCount, attributesOf, protocol}
+use Rattle.sa_fields.specs.declared.TransformNumber.{TransformNumber}
 use Rattle.wire_read.specs.Parts.{skip}
 use Rattle.sa_items.specs.Items.{firstItem, afterItem, transform, proposal, proposalCount}
-use Rattle.policy_lines.specs.Lines.{mainSeconds, quickProtocols, quickMode, quickSeconds}
-use Rattle.policy_suits.specs.Suits.{present, valueIs, mainValues, nothingSurplus, quickId, lifeWithin, quickAuthentication, mainSuits, quickSuits, suitsQuickLine, suitsLine, transformSuits, lowestFrom, lowest, protocolsAlone, protocolsBoth, protocolsSuit, setSuits}
+use Rattle.policy_lines.specs.Lines.{place, mainSeconds, quickProtocols, quickMode, quickSeconds}
+use Rattle.policy_lines.specs.declared.LineNumber.{LineNumber}
+use Rattle.policy_suits.specs.declared.SuitingTransform.{SuitingTransform}
+use Rattle.policy_suits.specs.declared.SuitingTransform.the-variants.{None, Lowest}
+use Rattle.policy_suits.proofs.Found.{none-found, lowest-found}
+use Rattle.policy_suits.specs.Suits.{present, valueIs, mainValues, nothingSurplus, quickId, lifeWithin, quickAuthentication, mainSuits, quickSuits, suitsQuickLine, suitsLine, transformSuits, lowestFrom, lowest, hasTransform, lowestTransform, lowestIn, protocolsAlone, protocolsBoth, protocolsSuit, setSuits}
 
 module _ (attributetype : ℕ) (attributes found : List ℕ) (v : ℕ) (ef : found ≡ attribute attributetype attributes) (ev : v ≡ value found) where
   pub value-found : (wanted : ℕ) → (leb 4 (length found) && eqb v wanted) ≡ valueIs attributetype wanted attributes
@@ -45,80 +51,112 @@ unfolding quickAuthentication
 authentication-both protocols protocol attributes a b h ea eb = rw (h, ← ea, ← eb)
 
 -- a transform is left at the first test that it does not pass
-module _ (i : ℕ) (book : List ℕ) (protocol : ℕ) (t : List ℕ) where
+module _ (line : LineNumber) (book : List ℕ) (protocol : ℕ) (t : List ℕ) where
   abbrev suits : Bool
-  suits = suitsQuickLine i book protocol t
+  suits = suitsQuickLine (place line) book protocol t
 
   module _ (attributes : List ℕ) (id wanted : ℕ) (ea : attributes ≡ attributesOf t) (ei : id ≡ transformId t) (ew : wanted ≡ quickId protocol) where
     pub quick-other : (id ≡ wanted → ⊥) → false ≡ suits
     unfolding quickSuits
     quick-other h = rw (← ei, ← ew, ne-eqb id wanted h)
 
-    module _ (same : id ≡ wanted) (seconds : ℕ) (es : seconds ≡ quickSeconds i book) (l : Bool) (el : l ≡ lifeWithin 2 seconds attributes) where
+    module _ (same : id ≡ wanted) (i : ℕ) (at-place : i ≡ place line) (seconds : ℕ) (es : seconds ≡ quickSeconds i book) (l : Bool)
+        (el : l ≡ lifeWithin 2 seconds attributes) where
       pub quick-life : not l ≡ true → false ≡ suits
       unfolding quickSuits
-      quick-life h = rw (← ea, ← es, ← el, not-true l h, and-false)
+      quick-life h = rw (← ea, ← at-place, ← es, ← el, not-true l h, and-false)
 
       module _ (lives : not l ≡ false) (mode : ℕ) (em : mode ≡ quickMode i book) (a : Bool) (ev : a ≡ valueIs 4 mode attributes) where
         pub quick-mode : not a ≡ true → false ≡ suits
         unfolding quickSuits
-        quick-mode h = rw (← ei, ← ew, eq-eqb id wanted same, ← ea, ← em, ← ev, not-true a h)
+        quick-mode h = rw (← ei, ← ew, eq-eqb id wanted same, ← ea, ← at-place, ← em, ← ev, not-true a h)
 
         module _ (in-mode : not a ≡ false) (b : Bool) (eb : b ≡ valueIs 1 1 attributes) where
           pub quick-unit : not b ≡ true → false ≡ suits
           unfolding quickSuits
-          quick-unit h = rw (← ei, ← ew, eq-eqb id wanted same, ← ea, ← em, ← ev, not-false a in-mode, ← eb, not-true b h)
+          quick-unit h = rw (← ei, ← ew, eq-eqb id wanted same, ← ea, ← at-place, ← em, ← ev, not-false a in-mode, ← eb, not-true b h)
 
           pub quick-rest : not b ≡ false → (protocols : ℕ) → protocols ≡ quickProtocols i book → (r : Bool) →
               r ≡ quickAuthentication protocols protocol attributes → r ≡ suits
           unfolding quickSuits
           quick-rest h protocols ep r e =
-              rw (← ei, ← ew, eq-eqb id wanted same, ← ea, ← em, ← ev, not-false a in-mode, ← eb, not-false b h, ← es, ← el, not-false l lives, ← ep) e
+              rw (
+                ← ei,
+                ← ew,
+                eq-eqb id wanted same,
+                ← ea,
+                ← at-place,
+                ← em,
+                ← ev,
+                not-false a in-mode,
+                ← eb,
+                not-false b h,
+                ← es,
+                ← el,
+                not-false l lives,
+                ← ep,
+              ) e
 
-module _ (exchange i : ℕ) (book : List ℕ) (protocol : ℕ) (t : List ℕ) (r : Bool) where
-  pub main-line : exchange ≡ 2 → (seconds : ℕ) → seconds ≡ mainSeconds i book → r ≡ mainSuits seconds t → r ≡ suitsLine exchange i book protocol t
+module _ (exchange : ℕ) (line : LineNumber) (book : List ℕ) (protocol : ℕ) (t : List ℕ) (r : Bool) where
+  pub main-line : exchange ≡ 2 → (i : ℕ) → i ≡ place line → (seconds : ℕ) → seconds ≡ mainSeconds i book → r ≡ mainSuits seconds t →
+      r ≡ suitsLine exchange (place line) book protocol t
   unfolding suitsLine
-  main-line h seconds es e = rw (eq-eqb exchange 2 h, ← es) e
+  main-line h i at-place seconds es e = rw (eq-eqb exchange 2 h, ← at-place, ← es) e
 
-  pub quick-line : (exchange ≡ 2 → ⊥) → r ≡ suitsQuickLine i book protocol t → r ≡ suitsLine exchange i book protocol t
+  pub quick-line : (exchange ≡ 2 → ⊥) → r ≡ suitsQuickLine (place line) book protocol t → r ≡ suitsLine exchange (place line) book protocol t
   unfolding suitsLine
   quick-line h e = rw (ne-eqb exchange 2 h) e
 
-pub rest-first : (p rest : List ℕ) → rest ≡ transformBytes p → rest ≡ skip afterItem 0 (transformBytes p)
-unfolding skip
-rest-first p rest e = e
+in-step : (n exchange i : ℕ) (book : List ℕ) (protocol : ℕ) (rest : List ℕ) → (n ≡ 0 → ⊥) →
+    lowestIn n exchange i book protocol rest ≡ (if suitsLine exchange i book protocol (firstItem rest) then Lowest (transformNumber (firstItem rest))
+    else lowestIn (n - 1) exchange i book protocol (afterItem rest))
+unfolding lowestIn
+in-step zero exchange i book protocol rest h = absurd (h refl)
+in-step (suc n) exchange i book protocol rest h = let e : suc n - 1 ≡ n = omega arith in rw e
 
-lowest-step : (n k exchange i : ℕ) (book p : List ℕ) → (n ≡ 0 → ⊥) →
-    lowestFrom n k exchange i book p ≡ (if transformSuits exchange i book p k then k + 1 else lowestFrom (n - 1) (k + 1) exchange i book p)
-unfolding lowestFrom
-lowest-step zero k exchange i book p h = absurd (h refl)
-lowest-step (suc n) k exchange i book p h = let e : suc n - 1 ≡ n = omega arith in rw e
-
-module _ (n k exchange i : ℕ) (book p : List ℕ) where
-  pub lowest-none : n ≡ 0 → 0 ≡ lowestFrom n k exchange i book p
-  unfolding lowestFrom
+module _ (n exchange i : ℕ) (book : List ℕ) (protocol : ℕ) (rest : List ℕ) where
+  pub lowest-none : n ≡ 0 → None ≡ lowestIn n exchange i book protocol rest
+  unfolding lowestIn
   lowest-none z = rw z
 
-  module _ (rest : List ℕ) (er : rest ≡ skip afterItem k (transformBytes p)) (size : ℕ) (es : size ≡ numberAt 2 rest 2) where
-    pub lowest-rest : (after : List ℕ) → after ≡ drop size rest → after ≡ skip afterItem (k + 1) (transformBytes p)
-    unfolding afterItem
-    lowest-rest after ea = rw (add-one, skip-next afterItem k (transformBytes p), ← er, ← es) ea
+  module _ (some : n ≡ 0 → ⊥) (size : ℕ) (es : size ≡ numberAt 2 rest 2) (t : List ℕ) (et : t ≡ take size rest) (b : Bool)
+      (eb : b ≡ suitsLine exchange i book protocol t) where
+    pub lowest-here : b ≡ true → (number : TransformNumber) → number ≡ transformNumber t → Lowest number ≡ lowestIn n exchange i book protocol rest
+    unfolding firstItem
+    lowest-here h number en = rw (in-step n exchange i book protocol rest some, ← es, ← et, ← eb, h, ← en)
 
-    module _ (some : n ≡ 0 → ⊥) (number : ℕ) (en : number ≡ protocol p) (t : List ℕ) (et : t ≡ take size rest) (b : Bool)
-        (eb : b ≡ suitsLine exchange i book number t) where
-      is : b ≡ transformSuits exchange i book p k
-      unfolding transformSuits transform firstItem
-      is = rw (← er, ← es, ← et, ← en) eb
+    pub lowest-on : b ≡ false → (behind : List ℕ) → behind ≡ drop size rest → (r : SuitingTransform) →
+        r ≡ lowestIn (n - 1) exchange i book protocol behind → r ≡ lowestIn n exchange i book protocol rest
+    unfolding firstItem afterItem
+    lowest-on h behind ea r e = rw (in-step n exchange i book protocol rest some, ← es, ← et, ← eb, h, ← ea) e
 
-      pub lowest-here : b ≡ true → k + 1 ≡ lowestFrom n k exchange i book p
-      lowest-here h = rw (lowest-step n k exchange i book p some, ← is, h)
+-- the transforms that lie behind the first k are those from place k on
+module _ (exchange i : ℕ) (book p : List ℕ) where
+  abbrev named : ℕ → SuitingTransform
+  named k = if leb 1 k then Lowest (transformNumber (transform (k - 1) p)) else None
 
-      pub lowest-on : b ≡ false → (r : ℕ) → r ≡ lowestFrom (n - 1) (k + 1) exchange i book p → r ≡ lowestFrom n k exchange i book p
-      lowest-on h r e = rw (lowest-step n k exchange i book p some, ← is, h) e
+  in-places : (n k : ℕ) → lowestIn n exchange i book (protocol p) (skip afterItem k (transformBytes p)) ≡ named (lowestFrom n k exchange i book p)
+  unfolding lowestIn lowestFrom transformSuits transform
+  in-places zero k = refl
+  in-places (suc n) k =
+      let here : List ℕ = skip afterItem k (transformBytes p) in
+      let back : k + 1 - 1 ≡ k = omega arith in
+      let next : skip afterItem (k + 1) (transformBytes p) ≡ afterItem here = rw add-one (skip-next afterItem k (transformBytes p)) in
+      by-test (suitsLine exchange i book (protocol p) (firstItem here))
+      (λ h. rw (h, le-leb 1 (k + 1) (omega arith), back))
+      (λ h. rw (h, ← next) (in-places n (k + 1)))
 
-pub lowest-all : (exchange i n r : ℕ) (book p : List ℕ) → n ≡ transformCount p → r ≡ lowestFrom n 0 exchange i book p → r ≡ lowest exchange i book p
-unfolding lowest
-lowest-all exchange i n r book p en er = rw (← en) er
+  pub lowest-all : (n number : ℕ) (all : List ℕ) (r : SuitingTransform) → n ≡ transformCount p → number ≡ protocol p → all ≡ transformBytes p →
+      r ≡ lowestIn n exchange i book number all → r ≡ lowestTransform exchange i book p
+  unfolding lowestTransform lowest skip
+  lowest-all n number all r en eu ea e = (rw (en, eu, ea) at e) ∙ in-places (transformCount p) 0
+
+  module _ (found : SuitingTransform) (ef : found ≡ lowestTransform exchange i book p) where
+    pub has-none : found ≡ None → false ≡ hasTransform exchange i book p
+    has-none h = sym (none-found exchange i book p (sym ef ∙ h))
+
+    pub has-lowest : (number : TransformNumber) → found ≡ Lowest number → true ≡ hasTransform exchange i book p
+    has-lowest number h = sym (lowest-found exchange i book p number (sym ef ∙ h) .0)
 
 module _ (set p : List ℕ) (count first : ℕ) (ec : count ≡ proposalCount set) (ep : p ≡ proposal 0 set) (ef : first ≡ protocol p) where
   pub one-protocol : (wanted : ℕ) → (eqb count 1 && eqb first wanted) ≡ protocolsAlone wanted set
@@ -130,32 +168,32 @@ module _ (set p : List ℕ) (count first : ℕ) (ec : count ≡ proposalCount se
   unfolding protocolsBoth
   two-protocols q second eq es = rw (← ec, ← ep, ← ef, ← eq, ← es)
 
-module _ (exchange i : ℕ) (book set : List ℕ) (r : Bool) where
-  pub protocols-main : exchange ≡ 2 → r ≡ protocolsAlone 1 set → r ≡ protocolsSuit exchange i book set
+module _ (exchange : ℕ) (line : LineNumber) (book set : List ℕ) (r : Bool) where
+  pub protocols-main : exchange ≡ 2 → r ≡ protocolsAlone 1 set → r ≡ protocolsSuit exchange (place line) book set
   unfolding protocolsSuit
   protocols-main h e = rw (eq-eqb exchange 2 h) e
 
-  module _ (quick : exchange ≡ 2 → ⊥) (protocols : ℕ) (ep : protocols ≡ quickProtocols i book) where
-    pub protocols-alone : protocols ≡ 1 → r ≡ protocolsAlone 3 set → r ≡ protocolsSuit exchange i book set
+  module _ (quick : exchange ≡ 2 → ⊥) (i : ℕ) (at-place : i ≡ place line) (protocols : ℕ) (ep : protocols ≡ quickProtocols i book) where
+    pub protocols-alone : protocols ≡ 1 → r ≡ protocolsAlone 3 set → r ≡ protocolsSuit exchange (place line) book set
     unfolding protocolsSuit
-    protocols-alone h e = rw (ne-eqb exchange 2 quick, ← ep, eq-eqb protocols 1 h) e
+    protocols-alone h e = rw (ne-eqb exchange 2 quick, ← at-place, ← ep, eq-eqb protocols 1 h) e
 
-    pub protocols-both : (protocols ≡ 1 → ⊥) → r ≡ protocolsBoth set → r ≡ protocolsSuit exchange i book set
+    pub protocols-both : (protocols ≡ 1 → ⊥) → r ≡ protocolsBoth set → r ≡ protocolsSuit exchange (place line) book set
     unfolding protocolsSuit
-    protocols-both h e = rw (ne-eqb exchange 2 quick, ← ep, ne-eqb protocols 1 h) e
+    protocols-both h e = rw (ne-eqb exchange 2 quick, ← at-place, ← ep, ne-eqb protocols 1 h) e
 
 -- a set is left at its first proposal, or at its protocols
-module _ (exchange i : ℕ) (book set : List ℕ) (p : List ℕ) (low : ℕ) (ep : p ≡ proposal 0 set) (el : low ≡ lowest exchange i book p) where
-  pub set-first : low ≡ 0 → false ≡ setSuits exchange i book set
+module _ (exchange i : ℕ) (book set p : List ℕ) (has : Bool) (ep : p ≡ proposal 0 set) (eh : has ≡ hasTransform exchange i book p) where
+  pub set-first : not has ≡ true → false ≡ setSuits exchange i book set
   unfolding setSuits
-  set-first h = rw (← ep, ← el, h, and-false)
+  set-first h = rw (← ep, ← eh, not-true has h, and-false)
 
-  module _ (some : low ≡ 0 → ⊥) (b : Bool) (eb : b ≡ protocolsSuit exchange i book set) where
+  module _ (some : not has ≡ false) (b : Bool) (eb : b ≡ protocolsSuit exchange i book set) where
     pub set-protocols : not b ≡ true → false ≡ setSuits exchange i book set
     unfolding setSuits
     set-protocols h = rw (← eb, not-true b h)
 
-    pub set-rest : not b ≡ false → (count : ℕ) (q : List ℕ) (low2 : ℕ) → count ≡ proposalCount set → q ≡ proposal 1 set → low2 ≡ lowest exchange i book q →
-        (eqb count 1 || leb 1 low2) ≡ setSuits exchange i book set
+    pub set-rest : not b ≡ false → (count : ℕ) (q : List ℕ) (second : Bool) → count ≡ proposalCount set → q ≡ proposal 1 set →
+        second ≡ hasTransform exchange i book q → (eqb count 1 || second) ≡ setSuits exchange i book set
     unfolding setSuits
-    set-rest suit count q low2 ec eq el2 = rw (← eb, not-false b suit, ← ep, ← el, le-leb 1 low (omega arith), ← ec, ← eq, ← el2)
+    set-rest suit count q second ec eq es = rw (← eb, not-false b suit, ← ep, ← eh, not-false has some, ← ec, ← eq, ← es)

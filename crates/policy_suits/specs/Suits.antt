@@ -1,5 +1,5 @@
 -- Which transform, and which set, suits which line, document 01, "Policy book and choice".
-use Prim.Native.Nat.{ℕ, zero, suc, _+_}
+use Prim.Native.Nat.{ℕ, zero, suc, _+_, _-_}
 use mathlib.Core.Bool.{Bool, _||_, _&&_}
 use lib.ListN.{length}
 use lib.Dec.{leb, eqb}
@@ -7,8 +7,10 @@ use Rattle.wire_read.specs.Wire.{Bytes}
 use Rattle.wire_read.specs.Tests.{if_then_else_}
 use Rattle.policy_lines.specs.Lines.{mainSeconds, quickProtocols, quickMode, quickSeconds}
 use Rattle.sa_attribute.specs.Attributes.{attribute, attributeCount, value}
-use Rattle.sa_fields.specs.Fields.{protocol, transformCount, transformId, attributesOf}
-use Rattle.sa_items.specs.Items.{proposal, proposalCount, transform}
+use Rattle.sa_fields.specs.Fields.{protocol, transformCount, transformNumber, transformId, attributesOf}
+use Rattle.sa_items.specs.Items.{firstItem, afterItem, proposal, proposalCount, transform}
+use Rattle.policy_suits.specs.declared.SuitingTransform.{SuitingTransform}
+use Rattle.policy_suits.specs.declared.SuitingTransform.the-variants.{None, Lowest}
 
 -- an attribute is there, is there with this value, or with a value from 1 to the longest
 unfoldable pub present : (attributetype : ℕ) (attributes : Bytes) → Bool
@@ -71,6 +73,21 @@ lowestFrom (suc n) k exchange i book p =
 unfoldable pub lowest : (exchange i : ℕ) (book p : Bytes) → ℕ
 lowest exchange i book p = lowestFrom (transformCount p) 0 exchange i book p
 
+-- whether there is one
+abbrev pub hasTransform : (exchange i : ℕ) (book p : Bytes) → Bool
+hasTransform exchange i book p = leb 1 (lowest exchange i book p)
+
+-- the lowest transform that suits, by its number
+unfoldable pub lowestTransform : (exchange i : ℕ) (book p : Bytes) → SuitingTransform
+lowestTransform exchange i book p = if hasTransform exchange i book p then Lowest (transformNumber (transform (lowest exchange i book p - 1) p)) else None
+
+-- the same among the n transforms that lie in rest, in a proposal of this protocol
+unfoldable pub lowestIn : (n exchange i : ℕ) (book : Bytes) (protocol : ℕ) (rest : Bytes) → SuitingTransform
+lowestIn zero exchange i book protocol rest = None
+lowestIn (suc n) exchange i book protocol rest =
+    if suitsLine exchange i book protocol (firstItem rest) then Lowest (transformNumber (firstItem rest))
+    else lowestIn n exchange i book protocol (afterItem rest)
+
 -- "its protocols are exactly the line's": 1 in exchange 2, ESP alone, or AH with ESP in either order
 unfoldable pub protocolsAlone : (wanted : ℕ) (set : Bytes) → Bool
 protocolsAlone wanted set = eqb (proposalCount set) 1 && eqb (protocol (proposal 0 set)) wanted
@@ -89,5 +106,5 @@ protocolsSuit exchange i book set =
 -- "A set suits a line if its protocols are exactly the line's and each proposal has a suiting transform"
 unfoldable pub setSuits : (exchange i : ℕ) (book set : Bytes) → Bool
 setSuits exchange i book set =
-    protocolsSuit exchange i book set && leb 1 (lowest exchange i book (proposal 0 set))
-    && (eqb (proposalCount set) 1 || leb 1 (lowest exchange i book (proposal 1 set)))
+    protocolsSuit exchange i book set && hasTransform exchange i book (proposal 0 set)
+    && (eqb (proposalCount set) 1 || hasTransform exchange i book (proposal 1 set))

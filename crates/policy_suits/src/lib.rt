@@ -1,4 +1,5 @@
 // Which transform, and which set, suits which line of the book.
+use policy_lines::LineNumber;
 use policy_lines::main_seconds;
 use policy_lines::quick_mode;
 use policy_lines::quick_protocols;
@@ -6,10 +7,12 @@ use policy_lines::quick_seconds;
 use sa_attribute::attribute;
 use sa_attribute::attribute_count;
 use sa_attribute::value;
+use sa_fields::TransformNumber;
 use sa_fields::attributes_of;
 use sa_fields::protocol;
 use sa_fields::transform_count;
 use sa_fields::transform_id;
+use sa_fields::transform_number;
 use sa_items::proposal;
 use sa_items::proposal_count;
 use sa_proposals::transform_bytes;
@@ -17,11 +20,21 @@ use wire_read::after;
 use wire_read::be16;
 use wire_read::front;
 ghost use mathlib.Core.Path.{_≡_};
-ghost use Prim.Native.Nat.{_+_, _≤_};
-ghost use Rattle.sa_proposals.specs.Proposals.{transformBytes};
-ghost use Rattle.wire_read.specs.Parts.{skip};
-ghost use Rattle.sa_items.specs.Items.{afterItem};
-ghost use Rattle.policy_suits.specs.Suits.{valueIs, lifeWithin, nothingSurplus, mainValues, mainSuits, quickId, quickAuthentication, suitsQuickLine, suitsLine, lowestFrom, lowest, protocolsAlone, protocolsBoth, protocolsSuit, setSuits};
+ghost use Rattle.policy_lines.specs.Lines.{place};
+ghost use Rattle.policy_suits.specs.Suits.{valueIs, lifeWithin, nothingSurplus, mainValues, mainSuits, quickId, quickAuthentication, suitsQuickLine, suitsLine, lowestIn, lowestTransform, hasTransform, protocolsAlone, protocolsBoth, protocolsSuit, setSuits};
+
+// The lowest transform of a proposal that suits a line. A transform's number may be 0, so that none is a case of its own.
+pub enum SuitingTransform {
+    None,
+    Lowest(TransformNumber),
+}
+
+// The place of a line, counted from 0.
+fn place(line: LineNumber) -> u8
+    ensures { λ r. ⌜ r ≡ place line ⌝ }
+{
+    if line.0 == 0 { 0 } else { line.0 - 1 }
+}
 
 fn value_is(attributetype: u16, wanted: u32, attributes: &[u8]) -> bool
     ensures { λ r. ⌜ r ≡ valueIs attributetype wanted (now (attributes .entry)) ⌝ }
@@ -80,14 +93,15 @@ fn quick_authentication(protocols: u8, protocol: u8, attributes: &[u8]) -> bool
     }
 }
 
-// Whether a transform of a proposal of this protocol suits quick line i.
-fn quick_suits(i: u8, book: &[u8], protocol: u8, t: &[u8]) -> bool
-    ensures { λ r. ⌜ r ≡ suitsQuickLine i (now (book .entry)) protocol (now (t .entry)) ⌝ }
+// Whether a transform of a proposal of this protocol suits a quick line.
+fn quick_suits(line: LineNumber, book: &[u8], protocol: u8, t: &[u8]) -> bool
+    ensures { λ r. ⌜ r ≡ suitsQuickLine (place line) (now (book .entry)) protocol (now (t .entry)) ⌝ }
 {
     let attributes = attributes_of(t);
     if transform_id(t) != quick_id(protocol) {
         return false;
     }
+    let i = place(line);
     // Lines differ most in their seconds, so the life is asked first, and the rest of the line read only where it suits.
     if !life_within(2, quick_seconds(i, book), attributes) {
         return false;
@@ -101,37 +115,54 @@ fn quick_suits(i: u8, book: &[u8], protocol: u8, t: &[u8]) -> bool
     quick_authentication(quick_protocols(i, book), protocol, attributes)
 }
 
-// Whether a transform of this protocol suits line i of the exchange, counted from 0.
-fn suits_line(exchange: u8, i: u8, book: &[u8], protocol: u8, t: &[u8]) -> bool
-    ensures { λ r. ⌜ r ≡ suitsLine exchange i (now (book .entry)) protocol (now (t .entry)) ⌝ }
+// Whether a transform of this protocol suits a line of the exchange.
+fn suits_line(exchange: u8, line: LineNumber, book: &[u8], protocol: u8, t: &[u8]) -> bool
+    ensures { λ r. ⌜ r ≡ suitsLine exchange (place line) (now (book .entry)) protocol (now (t .entry)) ⌝ }
 {
     if exchange == 2 {
-        return main_suits(main_seconds(i, book), t);
+        return main_suits(main_seconds(place(line), book), t);
     }
-    quick_suits(i, book, protocol, t)
+    quick_suits(line, book, protocol, t)
 }
 
-// The transforms from k on lie in `rest`, so that none is sought again from the first.
-fn lowest_from(n: u8, k: u8, exchange: u8, i: u8, book: &[u8], p: &[u8], rest: &[u8]) -> u8
-    requires { ⌜ (n + k ≤ 255) × (now rest ≡ skip afterItem k (transformBytes (now p))) ⌝ }
-    ensures { λ r. ⌜ r ≡ lowestFrom n k exchange i (now (book .entry)) (now (p .entry)) ⌝ }
+// Of the n transforms that lie in `rest`, one behind the other.
+fn lowest_in(
+    n: u8,
+    exchange: u8,
+    line: LineNumber,
+    book: &[u8],
+    protocol: u8,
+    rest: &[u8],
+) -> SuitingTransform
+    ensures { λ r. ⌜ r ≡ lowestIn n exchange (place line) (now (book .entry)) protocol (now (rest .entry)) ⌝ }
 {
     if n == 0 {
-        return 0;
+        return SuitingTransform::None;
     }
     let size = be16(rest, 2) as usize;
-    if suits_line(exchange, i, book, protocol(p), front(rest, size)) {
-        return k + 1;
+    let t = front(rest, size);
+    if suits_line(exchange, line, book, protocol, t) {
+        return SuitingTransform::Lowest(transform_number(t));
     }
-    lowest_from(n - 1, k + 1, exchange, i, book, p, after(rest, size))
+    lowest_in(n - 1, exchange, line, book, protocol, after(rest, size))
 }
 
-// The lowest transform of a proposal that suits a line, counted from 1; 0 where none does.
-pub fn lowest(exchange: u8, i: u8, book: &[u8], p: &[u8]) -> u8
-    ensures { λ r. ⌜ r ≡ lowest exchange i (now (book .entry)) (now (p .entry)) ⌝ }
+// The lowest transform of proposal p that suits a line of the exchange.
+pub fn lowest(exchange: u8, line: LineNumber, book: &[u8], p: &[u8]) -> SuitingTransform
+    ensures { λ r. ⌜ r ≡ lowestTransform exchange (place line) (now (book .entry)) (now (p .entry)) ⌝ }
 {
     let all = transform_bytes(p);
-    lowest_from(transform_count(p), 0, exchange, i, book, p, all)
+    lowest_in(transform_count(p), exchange, line, book, protocol(p), all)
+}
+
+fn has_transform(exchange: u8, line: LineNumber, book: &[u8], p: &[u8]) -> bool
+    ensures { λ r. ⌜ r ≡ hasTransform exchange (place line) (now (book .entry)) (now (p .entry)) ⌝ }
+{
+    let found = lowest(exchange, line, book, p);
+    match found {
+        SuitingTransform::None => false,
+        SuitingTransform::Lowest(_) => true,
+    }
 }
 
 fn protocols_alone(wanted: u8, set: &[u8]) -> bool
@@ -148,29 +179,29 @@ fn protocols_both(set: &[u8]) -> bool
     (proposal_count(set) == 2) & ((first == 2) & (second == 3) | (first == 3) & (second == 2))
 }
 
-fn protocols_suit(exchange: u8, i: u8, book: &[u8], set: &[u8]) -> bool
-    ensures { λ r. ⌜ r ≡ protocolsSuit exchange i (now (book .entry)) (now (set .entry)) ⌝ }
+fn protocols_suit(exchange: u8, line: LineNumber, book: &[u8], set: &[u8]) -> bool
+    ensures { λ r. ⌜ r ≡ protocolsSuit exchange (place line) (now (book .entry)) (now (set .entry)) ⌝ }
 {
     if exchange == 2 {
         return protocols_alone(1, set);
     }
-    if quick_protocols(i, book) == 1 {
+    if quick_protocols(place(line), book) == 1 {
         protocols_alone(3, set)
     } else {
         protocols_both(set)
     }
 }
 
-// Whether a set suits line i of the exchange, counted from 0.
-pub fn set_suits(exchange: u8, i: u8, book: &[u8], set: &[u8]) -> bool
-    ensures { λ r. ⌜ r ≡ setSuits exchange i (now (book .entry)) (now (set .entry)) ⌝ }
+// Whether a set suits a line of the exchange.
+pub fn set_suits(exchange: u8, line: LineNumber, book: &[u8], set: &[u8]) -> bool
+    ensures { λ r. ⌜ r ≡ setSuits exchange (place line) (now (book .entry)) (now (set .entry)) ⌝ }
 {
     // Lines differ most in their seconds, so the first proposal's transforms are asked first.
-    if lowest(exchange, i, book, proposal(0, set)) == 0 {
+    if !has_transform(exchange, line, book, proposal(0, set)) {
         return false;
     }
-    if !protocols_suit(exchange, i, book, set) {
+    if !protocols_suit(exchange, line, book, set) {
         return false;
     }
-    (proposal_count(set) == 1) | (1 <= lowest(exchange, i, book, proposal(1, set)))
+    (proposal_count(set) == 1) | has_transform(exchange, line, book, proposal(1, set))
 }

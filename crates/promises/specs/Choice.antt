@@ -22,6 +22,7 @@ use Rattle.sa_proposals.specs.Proposals.{offerCode}
 use Rattle.sa_sets.specs.Sets.{set, setCount}
 use Rattle.sa_sets.proofs.Places.{set-lawful}
 use Rattle.sa_items.specs.Items.{proposal, proposalCount}
+use Rattle.policy_lines.specs.Lines.{lineAt}
 use Rattle.policy_book.specs.Book.{bookRead, bookAnswer}
 use Rattle.policy_suits.specs.Suits.{lowest, setSuits}
 use Rattle.policy_suits.specs.Suiting.{Suits, LowestSuiting}
@@ -126,7 +127,7 @@ module _ (exchange : ℕ) (book body : Bytes) (reads : offerCode exchange body �
         (λ pair. rw (ne-eqb (proposalCount (set k body)) 1 (λ e. omega (arith, pair .two))) (in-two (pair .two)))
         (shape (set k body) exchange i book (suits-passed exchange i book (set k body) passes .protocols))
 
-    answers : choiceAnswer (chosen exchange (i + 1) book (set k body)) ≡ done (proposalNumber (proposal 0 (set k body)) .0 ∷ (i + 1) ∷ numbers)
+    answers : choiceAnswer (chosen exchange (lineAt i) book (set k body)) ≡ done (proposalNumber (proposal 0 (set k body)) .0 ∷ (i + 1) ∷ numbers)
     unfolding choiceAnswer chosen transformsOf
     answers =
         let place : i + 1 - 1 ≡ i = omega arith in

@@ -9,7 +9,7 @@ use Rattle.wire_read.specs.Wire.{Bytes}
 use Rattle.wire_read.specs.Answer.{done, refused}
 use Rattle.sa_fields.specs.declared.ProposalNumber.{ProposalNumber}
 use Rattle.policy_choice.specs.Choice.{bodyAt, chooseFrom, choiceAnswer}
-use Rattle.policy_choice.specs.declared.LineNumber.{LineNumber}
+use Rattle.policy_lines.specs.declared.LineNumber.{LineNumber}
 use Rattle.policy_choice.specs.declared.Transforms.{Transforms}
 use Rattle.policy_choice.specs.declared.Transforms.the-variants.{One, Two}
 use Rattle.policy_choice.specs.declared.Choice.{Choice}

@@ -31,7 +31,7 @@ use Rattle.sa_fields.specs.declared.TransformNumber.{TransformNumber}
 use Rattle.policy_suits.specs.Suits.{lowest, protocolsSuit}
 use Rattle.policy_choice.specs.Choice.{numberOf, transformsOf, saFrom, choice, choiceAnswer}
 use Rattle.policy_reply.specs.Reply.{ownSpi, saOf, setReply, spisLow, replied, replyAnswer}
-use Rattle.policy_choice.specs.declared.LineNumber.{LineNumber}
+use Rattle.policy_lines.specs.declared.LineNumber.{LineNumber}
 use Rattle.policy_choice.specs.declared.Transforms.{Transforms}
 use Rattle.policy_choice.specs.declared.Transforms.the-variants.{One, Two}
 use Rattle.policy_choice.specs.declared.Choice.the-variants.{Chosen}

@@ -18,7 +18,7 @@ use Rattle.sa_sets.proofs.Laws.{set-within}
 use Rattle.sa_fields.specs.declared.ProposalNumber.{ProposalNumber}
 use Rattle.policy_choice.specs.Choice.{bodyAt, chooseFrom}
 use Rattle.policy_choice.proofs.ChoiceLaws.{body-within}
-use Rattle.policy_choice.specs.declared.LineNumber.{LineNumber}
+use Rattle.policy_lines.specs.declared.LineNumber.{LineNumber}
 use Rattle.policy_choice.specs.declared.Transforms.{Transforms}
 use Rattle.policy_choice.specs.declared.Choice.{Choice}
 use Rattle.policy_choice.specs.declared.Choice.the-variants as choices

@@ -22,7 +22,7 @@ use Rattle.quick_deliver.specs.Deliver.{identityAt}
 use Rattle.quick_end.specs.declared.Own.{Own}
 use Rattle.sa_sets.specs.Sets.{setNumbered}
 use Rattle.sa_fields.specs.declared.ProposalNumber.{ProposalNumber}
-use Rattle.policy_choice.specs.declared.LineNumber.{LineNumber}
+use Rattle.policy_lines.specs.declared.LineNumber.{LineNumber}
 use Rattle.policy_choice.specs.declared.Transforms.{Transforms}
 use Rattle.policy_choice.specs.declared.Choice.the-variants.{Chosen}
 

@@ -27,7 +27,7 @@ use Rattle.sa_sets.proofs.Places.{LawfulSet, set-lawful, set-by-number}
 use Rattle.policy_suits.specs.Suits.{lowest}
 use Rattle.policy_choice.specs.Choice.{numberOf, transformsOf, chosen, bodyAt, chooseFrom}
 use Rattle.policy_reply.specs.Reply.{ownSpi, setReply, saOf, spiLow, spisLow}
-use Rattle.policy_choice.specs.declared.LineNumber.{LineNumber}
+use Rattle.policy_lines.specs.declared.LineNumber.{LineNumber}
 use Rattle.policy_choice.specs.declared.Transforms.{Transforms}
 use Rattle.policy_choice.specs.declared.Transforms.the-variants.{One, Two}
 use Rattle.policy_choice.specs.declared.Choice.{Choice}

@@ -13,7 +13,7 @@ use Rattle.sa_sets.specs.Sets.{set, setCount, setNumbered}
 use Rattle.sa_fields.specs.declared.ProposalNumber.{ProposalNumber}
 use Rattle.sa_fields.specs.declared.TransformNumber.{TransformNumber}
 use Rattle.policy_choice.specs.Choice.{bodyAt, chooseFrom}
-use Rattle.policy_choice.specs.declared.LineNumber.{LineNumber}
+use Rattle.policy_lines.specs.declared.LineNumber.{LineNumber}
 use Rattle.policy_choice.specs.declared.Transforms.{Transforms}
 use Rattle.policy_choice.specs.declared.Transforms.the-variants.{One, Two}
 use Rattle.policy_choice.specs.declared.Choice.the-variants.{Chosen}

@@ -12,5 +12,6 @@ protocols-suit-spec =
     (λ c κs. search needs)
     (λ c κs. search needs)
     (λ c κs. search needs)
+    (λ c κs. search needs)
     (λ c. search protocols-alone)
     (λ c. search protocols-both))

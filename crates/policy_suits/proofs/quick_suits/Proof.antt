@@ -13,6 +13,7 @@ quick-suits-spec =
     (λ c. search quick-other)
     (λ c κs. search needs)
     (λ c κs. search needs)
+    (λ c κs. search needs)
     (λ c. search quick-life)
     (λ c κs. search needs)
     (λ c. search needs)

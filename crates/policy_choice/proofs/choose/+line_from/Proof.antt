@@ -31,10 +31,9 @@ pub +line-from-spec : {M : Type 1} → statement M
     (line-from-at t)
     line-from.Post
     (λ c. search line-none)
+    (λ c. search needs)
     (λ c κs. search needs)
-    (λ c. search needs)
     (λ c. search line-here)
-    (λ c. search needs)
     (λ c. search needs)
     (λ c κs. (omega arith, omega arith))
     (λ c. search line-on)
