@@ -66,6 +66,7 @@ fn main() -> ExitCode {
     contracts(root, &mut tally);
     rows_declared(root, &mut tally);
     edits_named(root, &mut tally);
+    wrong_cores(root, &mut tally);
     made(root, &mut tally);
     crates(root, &mut tally);
     axioms(root, &mut tally);
@@ -140,6 +141,17 @@ fn edits_named(root: &Path, tally: &mut Tally) {
                 format!("{label} names {name}, for which {CONTRACTS} has no row under {}", edit.krate)
             });
         }
+    }
+}
+
+/// An edit of definition and code names the definition that it gets wrong.
+fn wrong_cores(root: &Path, tally: &mut Tally) {
+    let declared = declared_names(&root.join("crates"));
+    for edit in edits::edits(&root.join("tests/wrong-cores")) {
+        let named = !edit.names.is_empty() && edit.names.iter().all(|name| declared.contains(name));
+        tally.fact(named, || {
+            format!("tests/wrong-cores/{}.edit does not begin with `# DEFINITION: what it gets wrong`", edit.label)
+        });
     }
 }
 
