@@ -2,6 +2,7 @@
 -- message, so the premise is met exactly when some offered set suits some line of the responder's book; and it answers 14 exactly when none does.
 use Prim.Native.Nat.{ℕ, zero, suc, _<_}
 use mathlib.Core.Path.{_≡_, refl, sym, ap, subst, _∙_}
+use mathlib.Core.List.{[], _∷_}
 use mathlib.Core.Bool.{Bool, true, false, not}
 use native.Mathlib.Omega.{arith}
 use lib.ListN.{length}
@@ -9,16 +10,16 @@ use lib.Dec.{ltb, eqb}
 use borrow.Author.Tests.{eqb-true, eq-eqb, ne-eqb, ltb-false, not-false}
 use Rattle.wire_read.specs.Wire.{Bytes}
 use Rattle.wire_read.specs.Tests.{if_then_else_}
-use Rattle.wire_read.specs.Answer.{Answer, refused}
+use Rattle.wire_read.specs.Answer.{Answer, done, refused}
 use Rattle.wire_read.proofs.Tests.{never, clash, both, by-test, passed}
-use Rattle.message_chain.specs.Message.{message, payloadAt}
+use Rattle.message_chain.specs.Message.{message, messageAnswer, payloadAt}
 use Rattle.message_chain.specs.declared.Message.{Message}
 use Rattle.message_chain.specs.declared.Message.the-variants as read
 use Rattle.message_chain.proofs.Laws.{refusal-some}
 use Rattle.sa_proposals.specs.Proposals.{offerCode}
 use Rattle.sa_sets.specs.Sets.{set, setCount}
 use Rattle.policy_lines.specs.Lines.{mainCount, quickCount, bookSize}
-use Rattle.policy_book.specs.Book.{bookInFront, bookRead}
+use Rattle.policy_book.specs.Book.{bookInFront, bookRead, bookAnswer}
 use Rattle.policy_book.specs.declared.Book.the-variants as books
 use Rattle.policy_suits.specs.Suiting.{Suits}
 use Rattle.policy_choice.specs.Choice.{lineCount, chooseFrom, bodyAt, saFrom, choice, choiceAnswer}
@@ -39,7 +40,8 @@ use Rattle.quick_exchange.specs.Exchange.{Party, deliver, called, World, Run, F
 use Rattle.quick_exchange.proofs.Fresh.{fresh-fit}
 use Rattle.quick_exchange.proofs.Moves.{second-is}
 use Rattle.quick_exchange.proofs.Liveness as liveness
-use Rattle.promises.specs.Choice.{Offer, NoneSuits, Best, choice-is, fourteen-means-none, none-means-fourteen, chosen-best}
+use Rattle.promises.specs.Payloads as payloads
+use Rattle.promises.specs.Choice.{Offer, NoneSuits, Best, choice-is, fourteen-means-none, none-means-fourteen, chosen-best, book-own}
 use Rattle.promises.specs.DemandThree.{suits-unrefused}
 
 -- ---- what is said
@@ -47,7 +49,7 @@ use Rattle.promises.specs.DemandThree.{suits-unrefused}
 -- a message of exchange 32 in "either longer shape"
 pub record Longer (m : Bytes) : Type 0 where
   pub count : ℕ
-  pub readable : message m ≡ read.Read 32 count
+  pub readable : messageAnswer (message m) ≡ done (32 ∷ count ∷ [])
   pub longer : isLonger (shapeOf m) ≡ true
 
 -- some offered set suits some policy line
@@ -62,7 +64,7 @@ pub record SomeSuits (exchange : ℕ) (book body : Bytes) : Type 0 where
 pub record LawfulBook (book : Bytes) : Type 0 where
   pub main : ℕ
   pub quick : ℕ
-  pub lawful : bookRead book ≡ books.Lawful main quick
+  pub lawful : bookAnswer (bookRead book) ≡ done (main ∷ quick ∷ [])
 
 -- message one is delivered at a responder that is Idle, and passes the checks
 pub record MessageOne (p : Party) (m : Bytes) (holds : Bool) (output : Bytes) : Type 0 where
@@ -105,24 +107,32 @@ unfolding offerCode
 offer-some exchange body h z = omega (arith, ltb-false (length body) 8 (passed (ltb (length body) 8) 15 _ (λ e. omega arith) h .0))
 
 module _ {m : Bytes} (l : Longer m) where
+  reads : message m ≡ read.Read 32 (l .count)
+  unfolding messageAnswer
+  reads = payloads.answer-own (message m) (read.Read 32 (l .count)) (l .readable)
+
   its-types : (1 < l .count) × (payloadAt 0 m .payloadtype ≡ 8) × (payloadAt 1 m .payloadtype ≡ 1)
   unfolding shapeOf countOf
-  its-types = types (l .count) m (rw (l .readable) at (l .longer))
+  its-types = types (l .count) m (rw reads at (l .longer))
 
   -- the SA payload of the message is payload 1, from which the ends choose
   pub same-body : saFrom (l .count) 0 m ≡ bodyAt 1 m
   same-body = second-offers (l .count) m (its-types .0) (its-types .1) (its-types .2)
 
   module _ {book : Bytes} (b : LawfulBook book) where
+    is-lawful : bookRead book ≡ books.Lawful (b .main) (b .quick)
+    unfolding bookAnswer
+    is-lawful = book-own (bookRead book) (books.Lawful (b .main) (b .quick)) (b .lawful)
+
     abbrev offer : Offer book m
     offer = record {
       main = b .main;
       quick = b .quick;
       exchange = 32;
       count = l .count;
-      lawful = b .lawful;
-      readable = l .readable;
-      offered = λ z. offer-some 32 (bodyAt 1 m) (body-reads m 32 (l .count) (l .readable) 1 (its-types .0) (its-types .2)) (ap length (sym same-body) ∙ z);
+      lawful = is-lawful;
+      readable = reads;
+      offered = λ z. offer-some 32 (bodyAt 1 m) (body-reads m 32 (l .count) reads 1 (its-types .0) (its-types .2)) (ap length (sym same-body) ∙ z);
     }
 
     -- the choice of the responder is the choice of the library
@@ -166,13 +176,13 @@ readable-of own state id m (read.Read exchange count) e h =
 
 module _ {p : Party} {m : Bytes} {holds : Bool} {output : Bytes} (one : MessageOne p m holds output) where
   is-longer : Longer m
-  unfolding deliveryCode
+  unfolding deliveryCode messageAnswer
   is-longer =
       let room = passed (small (p .sent) (p .got) output) 8192 _ (λ z. omega arith) (one .passes) in
       let hash = passed (not holds) 23 _ (λ z. omega arith) (room .1) in
       let up = passed (isGivenUp (stateOf p)) 8196 _ (λ z. omega arith) (hash .1) in
       let reads = readable-of (p .end .own) (stateOf p) (p .end .progress .id) m (message m) refl (up .1) in
-      record { count = reads .0; readable = reads .1; longer = one .longer }
+      record { count = reads .0; readable = ap messageAnswer (reads .1); longer = one .longer }
 
   chooses-then : called p (deliver m holds output) ≡ afterChoice (p .end) m (p .sent) (p .got) output (chooseFrom 32 (bookOf (p .end .own)) (bodyAt 1 m))
   unfolding called delivered atResponder
@@ -201,7 +211,7 @@ module _ {p : Party} {m : Bytes} {holds : Bool} {output : Bytes} (one : MessageO
 -- ---- the two ends of an exchange: the responder's book is lawful, and message one has a longer shape
 
 lawful-of : (book : Bytes) → bookInFront book ≡ true → bookSize book ≡ length book → LawfulBook book
-unfolding bookRead
+unfolding bookRead bookAnswer
 lawful-of book front whole = record { main = mainCount book; quick = quickCount book; lawful = rw (front, eq-eqb (bookSize book) (length book) whole) }
 
 module _ {w : World} (fresh : Fresh w) where
@@ -212,7 +222,8 @@ module _ {w : World} (fresh : Fresh w) where
 
   module _ (b : Beginning w) where
     one-is : Longer (oneOf b)
-    one-is = let l = liveness.one-longer fresh b in record { count = l .0; readable = l .1; longer = l .2 }
+    unfolding messageAnswer
+    one-is = let l = liveness.one-longer fresh b in record { count = l .0; readable = ap messageAnswer (l .1); longer = l .2 }
 
     -- the premise is met exactly when some set of message one suits some line of the responder's book
     pub premise-means : Chooses (w .responder .end .own) (oneOf b) → SomeSuits 32 (bookOf (w .responder .end .own)) (bodyAt 1 (oneOf b))
