@@ -1,7 +1,8 @@
 //! What the house keeps, checked from the sources. Every public function has a contract, a row in docs/CONTRACTS.md, a must-fail edit and
 //! a theorem that it has one answer, and every row is of something that its crate declares. That page's column of edits and the diagram in
-//! docs/ARCHITECTURE.md are as they are made from the sources. No axiom is declared. The pages name only files that exist, and where
-//! they lay out definitions only names that the sources declare. Each sample answers as its page says, and README.md shows what it does.
+//! docs/ARCHITECTURE.md are as they are made from the sources. The edits of tests/wrong-cores name a definition. No axiom is declared. The
+//! pages name only files that exist, and where they lay out definitions only names that the sources declare. Each sample answers as its page
+//! says, and README.md shows what it does.
 //! `house ROOT BENCH VERDICT`; the last line is `N passed, M failed`. `house --write ROOT` makes column and diagram anew (tools/pages).
 
 mod diagram;
