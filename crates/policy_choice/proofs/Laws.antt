@@ -1,19 +1,23 @@
--- What the searches of the choice find: the first line that suits, and the first set that suits a line.
+-- What the searches of the choice find: the first line that suits, and the first set that suits a line; and that 14 means that none does.
 use Prim.Native.Nat.{ℕ, zero, suc, _+_, _≤_, _<_}
-use mathlib.Core.Path.{_≡_, refl}
+use mathlib.Core.Path.{_≡_, refl, sym, _∙_}
 use mathlib.Core.List.{List}
 use mathlib.Core.Bool.{true, false}
 use native.Mathlib.Omega.{arith}
 use lib.Dec.{eqb, leb}
 use borrow.Author.Tests.{ne-eqb, leb-true, leb-false}
 use Rattle.wire_read.specs.Tests.{if_then_else_}
-use Rattle.wire_read.proofs.Tests.{by-test}
+use Rattle.wire_read.proofs.Tests.{never, clash, by-test}
+use Rattle.sa_proposals.specs.Proposals.{offerCode}
 use Rattle.sa_sets.specs.Sets.{set, setCount}
+use Rattle.sa_sets.proofs.Places.{set-lawful}
 use Rattle.policy_lines.specs.Lines.{lineAt}
 use Rattle.policy_lines.specs.declared.LineNumber.{LineNumber}
 use Rattle.policy_suits.specs.Suits.{setSuits}
+use Rattle.policy_suits.specs.Suiting.{Suits}
 use Rattle.policy_suits.proofs.Laws.{First, none, here, firstFrom, first-from}
-use Rattle.policy_choice.specs.Choice.{lineCount, lineFrom, firstLine, chosen, setFrom, chooseFrom}
+use Rattle.policy_suits.proofs.SuitingLaws.{suits-says, says-suits}
+use Rattle.policy_choice.specs.Choice.{lineCount, lineFrom, firstLine, chosen, setFrom, chooseFrom, NoneSuits}
 use Rattle.policy_choice.specs.declared.Choice.{Choice}
 use Rattle.policy_choice.specs.declared.Choice.the-variants.{Refused}
 
@@ -68,6 +72,28 @@ module _ (exchange : ℕ) (book body : List ℕ) where
   unfolding setFrom
   choosing-from zero k = fourteen (λ j h l. absurd (omega arith))
   choosing-from (suc n) k = step n k (setFrom n (k + 1) exchange book body) (line-is exchange book (set k body)) (choosing-from n (k + 1))
+
+  -- of a body that reads: 14 exactly where no set suits any line
+  module _ (reads : offerCode exchange body ≡ 0) where
+    pub no-suit : (k i : ℕ) → k < setCount body → setSuits exchange i book (set k body) ≡ false → Suits exchange i book (set k body) → ⊥
+    no-suit k i a h u = clash (sym h ∙ says-suits exchange i book (set k body) (set-lawful exchange body reads k a .lawful) u)
+
+    means-none : {r : Choice} → Choosing exchange book body (setCount body) 0 r → r ≡ Refused 14 → NoneSuits exchange book body
+    unfolding chosen
+    means-none (fourteen f) e = λ k i a b. no-suit k i a (f k (omega arith) (omega arith) i b)
+    means-none (chose j i h l b t f g) e = never (cc)
+
+    none-means : {r : Choice} → Choosing exchange book body (setCount body) 0 r → NoneSuits exchange book body → r ≡ Refused 14
+    none-means (fourteen f) e = refl
+    none-means (chose j i h l b t f g) e = absurd (e j i (omega arith) b (suits-says exchange i book (set j body) t))
+
+    pub fourteen-none : chooseFrom exchange book body ≡ Refused 14 → NoneSuits exchange book body
+    unfolding chooseFrom
+    fourteen-none e = means-none (choosing-from (setCount body) 0) e
+
+    pub none-fourteen : NoneSuits exchange book body → chooseFrom exchange book body ≡ Refused 14
+    unfolding chooseFrom
+    none-fourteen f = none-means (choosing-from (setCount body) 0) f
 
   pub choosing : Choosing exchange book body (setCount body) 0 (chooseFrom exchange book body)
   unfolding chooseFrom

@@ -1,6 +1,6 @@
 -- The choice, document 01: "Chosen: first set, then first line, then lowest transform in each proposal. Checks: book, message, no SA
 -- payload (16), then 14."
-use Prim.Native.Nat.{ℕ, zero, suc, _+_, _-_}
+use Prim.Native.Nat.{ℕ, zero, suc, _+_, _-_, _<_}
 use mathlib.Core.List.{[], _∷_}
 use lib.ListN.{length, take, drop}
 use lib.Dec.{eqb}
@@ -20,6 +20,7 @@ use Rattle.policy_book.specs.Book.{bookRead}
 use Rattle.policy_book.specs.declared.Book.{Book}
 use Rattle.policy_book.specs.declared.Book.the-variants as books
 use Rattle.policy_suits.specs.Suits.{lowest, setSuits}
+use Rattle.policy_suits.specs.Suiting.{Suits}
 use Rattle.policy_choice.specs.declared.Transforms.{Transforms}
 use Rattle.policy_choice.specs.declared.Transforms.the-variants.{One, Two}
 use Rattle.policy_choice.specs.declared.Choice.{Choice}
@@ -100,3 +101,7 @@ unfoldable pub choiceAnswer : (chosen : Choice) → Answer
 choiceAnswer (Refused number) = refused number
 choiceAnswer (Chosen number line (One t)) = done (number .0 ∷ line .0 ∷ t .0 ∷ [])
 choiceAnswer (Chosen number line (Two t u)) = done (number .0 ∷ line .0 ∷ t .0 ∷ u .0 ∷ [])
+
+-- "no offered set suits any policy line", in the words of Suiting.antt
+abbrev pub NoneSuits : (exchange : ℕ) (book body : Bytes) → Type 0
+NoneSuits exchange book body = (k i : ℕ) → k < setCount body → i < lineCount exchange book → Suits exchange i book (set k body) → ⊥

@@ -2,11 +2,11 @@
 -- is the first set, the first line that it suits, and the lowest transform in each proposal. "Suits" is the record Suits of policy_suits, which
 -- says document 01's sentence over lists and with no search in it. Shut out: the core that always answers 14, and the one that takes a set's
 -- proposals as alternatives.
-use Prim.Native.Nat.{ℕ, zero, suc, _+_, _-_, _≤_, _<_}
+use Prim.Native.Nat.{ℕ, zero, suc, _+_, _-_, _<_}
 use mathlib.Core.Path.{_≡_, refl, sym, ap, _∙_}
 use mathlib.Core.Logic.{⊎-elim}
 use mathlib.Core.List.{List, [], _∷_}
-use mathlib.Core.Bool.{true, false}
+use mathlib.Core.Bool.{true}
 use native.Mathlib.Omega.{arith}
 use lib.ListN.{length, getD}
 use lib.Dec.{eqb}
@@ -14,7 +14,7 @@ use borrow.Author.Tests.{eq-eqb, ne-eqb}
 use Rattle.wire_read.specs.Wire.{Bytes}
 use Rattle.wire_read.specs.Tests.{if_then_else_}
 use Rattle.wire_read.specs.Answer.{Answer, done, refused}
-use Rattle.wire_read.proofs.Tests.{never, clash, by-test}
+use Rattle.wire_read.proofs.Tests.{never, by-test}
 use Rattle.message_chain.specs.Message.{message, messageAnswer}
 use Rattle.message_chain.specs.declared.Message.the-variants as read
 use Rattle.sa_fields.specs.Fields.{proposalNumber}
@@ -26,7 +26,7 @@ use Rattle.policy_lines.specs.Lines.{lineAt}
 use Rattle.policy_book.specs.Book.{bookRead, bookAnswer}
 use Rattle.policy_suits.specs.Suits.{lowest, setSuits}
 use Rattle.policy_suits.specs.Suiting.{Suits, LowestSuiting}
-use Rattle.policy_choice.specs.Choice.{lineCount, numberOf, transformsOf, chosen, chooseFrom, saFrom, messageChoice, bookChoice, choice, choiceAnswer}
+use Rattle.policy_choice.specs.Choice.{lineCount, numberOf, transformsOf, chosen, chooseFrom, saFrom, messageChoice, bookChoice, choice, choiceAnswer, NoneSuits}
 use Rattle.policy_reply.specs.Reply.{replyAnswer}
 use Rattle.policy_book.specs.declared.Book.{Book}
 use Rattle.policy_book.specs.declared.Book.the-variants as books
@@ -39,8 +39,8 @@ use Rattle.promises.specs.SequenceAnswers.{parts}
 use Rattle.promises.specs.Payloads as payloads
 use Rattle.policy_suits.proofs.Laws.{suits-passed}
 use Rattle.policy_suits.proofs.SuitLaws.{shape}
-use Rattle.policy_suits.proofs.SuitingLaws.{suits-says, says-suits, lowest-says}
-use Rattle.policy_choice.proofs.Laws.{NoLine, Choosing, fourteen, chose, choosing}
+use Rattle.policy_suits.proofs.SuitingLaws.{suits-says, lowest-says}
+use Rattle.policy_choice.proofs.Laws.{Choosing, fourteen, chose, no-suit, fourteen-none, none-fourteen, choosing}
 use Rattle.policy_choice.proofs.ChoiceLaws.{sa-reads}
 
 -- a lawful book, and a message that reads and has an SA payload
@@ -52,10 +52,6 @@ pub record Offer (book m : Bytes) : Type 0 where
   pub lawful : bookRead book ≡ books.Lawful main quick
   pub readable : message m ≡ read.Read exchange count
   pub offered : length (saFrom count 0 m) ≡ 0 → ⊥
-
--- no offered set suits any policy line
-abbrev pub NoneSuits : (exchange : ℕ) (book body : Bytes) → Type 0
-NoneSuits exchange book body = (k i : ℕ) → k < setCount body → i < lineCount exchange book → Suits exchange i book (set k body) → ⊥
 
 -- "lowest transform in each proposal" of the set s: one number for each
 pub record Lowest (exchange i : ℕ) (book s : Bytes) (numbers : List ℕ) : Type 0 where
@@ -78,19 +74,6 @@ pub record Best (exchange : ℕ) (book body : Bytes) (r : Choice) : Type 0 where
 -- ---- proofs
 
 module _ (exchange : ℕ) (book body : Bytes) (reads : offerCode exchange body ≡ 0) where
-  no-suit : (k i : ℕ) → k < setCount body → setSuits exchange i book (set k body) ≡ false → Suits exchange i book (set k body) → ⊥
-  no-suit k i a h u = clash (sym h ∙ says-suits exchange i book (set k body) (set-lawful exchange body reads k a .lawful) u)
-
-  means-none : {n k : ℕ} {r : Choice} → Choosing exchange book body n k r → r ≡ Refused 14 → (j : ℕ) → k ≤ j → j < k + n → NoLine exchange book (set j body)
-  unfolding chosen
-  means-none (fourteen f) e = f
-  means-none (chose j i h l b t f g) e = never (cc)
-
-  none-means : {n k : ℕ} {r : Choice} → Choosing exchange book body n k r →
-      ((j i : ℕ) → k ≤ j → j < k + n → i < lineCount exchange book → Suits exchange i book (set j body) → ⊥) → r ≡ Refused 14
-  none-means (fourteen f) e = refl
-  none-means (chose j i h l b t f g) e = absurd (e j i h l b (suits-says exchange i book (set j body) t))
-
   -- the numbers that are answered for a set that suits line i
   module _ (k i : ℕ) (a : k < setCount body) (passes : setSuits exchange i book (set k body) ≡ true) where
     abbrev number : (j : ℕ) → ℕ
@@ -144,8 +127,8 @@ module _ (exchange : ℕ) (book body : Bytes) (reads : offerCode exchange body �
         a-set = a;
         a-line = b;
         suits = suits-says exchange i book (set j body) t;
-        first-set = λ x c m v. no-suit x c (omega arith) (f x (omega arith) m c v);
-        first-line = λ c m. no-suit j c a (g c m);
+        first-set = λ x c m v. no-suit exchange book body reads x c (omega arith) (f x (omega arith) m c v);
+        first-line = λ c m. no-suit exchange book body reads j c a (g c m);
         lowest-transforms = lowest-in-each j i a t;
         answered = answers j i a t;
       }
@@ -163,12 +146,10 @@ module _ (book m : Bytes) (o : Offer book m) where
   choice-is = rw (o .lawful, o .readable, ne-eqb (length body) 0 (o .offered))
 
   pub fourteen-means-none : choice book m ≡ Refused 14 → NoneSuits (o .exchange) book body
-  fourteen-means-none e k i a b u =
-      no-suit (o .exchange) book body body-reads k i a
-      (means-none (o .exchange) book body body-reads (choosing (o .exchange) book body) (sym choice-is ∙ e) k (omega arith) (omega arith) i b) u
+  fourteen-means-none e = fourteen-none (o .exchange) book body body-reads (sym choice-is ∙ e)
 
   pub none-means-fourteen : NoneSuits (o .exchange) book body → choice book m ≡ Refused 14
-  none-means-fourteen f = choice-is ∙ none-means (o .exchange) book body body-reads (choosing (o .exchange) book body) (λ j i h l. f j i (omega arith))
+  none-means-fourteen f = choice-is ∙ none-fourteen (o .exchange) book body body-reads f
 
   pub chosen-best : (choice book m ≡ Refused 14 → ⊥) → Best (o .exchange) book body (choice book m)
   chosen-best d = rw choice-is (best (o .exchange) book body body-reads (choosing (o .exchange) book body) refl (λ e. d (choice-is ∙ e)))

@@ -1,15 +1,13 @@
 -- Kept buffers: what a call answers and leaves hangs on the messages that the kept buffers hold, and not on what lies behind these. So an
 -- end that is lent a longer or a shorter buffer of full size, with the same front, does the same, and goes on to do so.
 use Prim.Native.Nat.{ℕ, min, _+_, _≤_}
-use mathlib.Core.Path.{_≡_, refl, sym, ap, _∙_}
-use mathlib.Core.List.{_++_}
+use mathlib.Core.Path.{_≡_, sym, ap, _∙_}
 use mathlib.Core.Bool.{Bool, not, _||_}
 use native.Mathlib.Omega.{arith}
 use lib.ListN.{length, take, drop, take-append-drop}
 use lib.Seq.{length-take-le}
 use lib.Dec.{ltb, eqb}
 use Rattle.wire_read.specs.Wire.{Bytes}
-use Rattle.wire_read.specs.Tests.{if_then_else_}
 use Rattle.wire_read.proofs.Tests.{by-test}
 use Rattle.wire_write.specs.Put.{paste}
 use Rattle.wire_write.proofs.Laws.{paste-append, take-paste, paste-inside}

@@ -22,7 +22,7 @@ use Rattle.policy_lines.specs.Lines.{mainCount, quickCount, bookSize}
 use Rattle.policy_book.specs.Book.{bookInFront, bookRead, bookAnswer}
 use Rattle.policy_book.specs.declared.Book.the-variants as books
 use Rattle.policy_suits.specs.Suiting.{Suits}
-use Rattle.policy_choice.specs.Choice.{lineCount, chooseFrom, bodyAt, saFrom, choice, choiceAnswer}
+use Rattle.policy_choice.specs.Choice.{lineCount, chooseFrom, bodyAt, saFrom, choice, choiceAnswer, NoneSuits}
 use Rattle.policy_choice.specs.declared.Choice.{Choice}
 use Rattle.policy_choice.specs.declared.Choice.the-variants as choices
 use Rattle.policy_choice.proofs.ChoiceLaws.{body-reads}
@@ -41,7 +41,7 @@ use Rattle.quick_exchange.proofs.Fresh.{fresh-fit}
 use Rattle.quick_exchange.proofs.Moves.{second-is}
 use Rattle.quick_exchange.proofs.Liveness as liveness
 use Rattle.promises.specs.Payloads as payloads
-use Rattle.promises.specs.Choice.{Offer, NoneSuits, Best, choice-is, fourteen-means-none, none-means-fourteen, chosen-best, book-own}
+use Rattle.promises.specs.Choice.{Offer, Best, choice-is, fourteen-means-none, none-means-fourteen, chosen-best, book-own}
 use Rattle.promises.specs.DemandThree.{suits-unrefused}
 
 -- ---- what is said
