@@ -1,5 +1,5 @@
 -- Kept buffers: what a call answers and leaves hangs on the messages that the kept buffers hold, and not on what lies behind these. So an
--- end that is lent a longer or a shorter buffer of full size, with the same front, does the same, and goes on to do so.
+-- end that is lent a longer or a shorter buffer of full size, with the same front, does the same at that call, and keeps the same messages.
 use Prim.Native.Nat.{ℕ, min, _+_, _≤_}
 use mathlib.Core.Path.{_≡_, sym, ap, _∙_}
 use mathlib.Core.Bool.{Bool, not, _||_}
