@@ -3,7 +3,7 @@
 //! docs/ARCHITECTURE.md are as they are made from the sources. The edits of tests/wrong-cores name a definition. No axiom is declared. The
 //! pages name only files that exist, and where they lay out definitions only names that the sources declare. Each sample answers as its page
 //! says, and README.md shows what it does.
-//! `house ROOT BENCH VERDICT`; the last line is `N passed, M failed`. `house --write ROOT` makes column and diagram anew (tools/pages).
+//! `house ROOT BENCH VERDICT CAPTURE`; the last line is `N passed, M failed`. `house --write ROOT` makes column and diagram anew (tools/pages).
 
 mod diagram;
 mod edits;
@@ -58,8 +58,8 @@ fn main() -> ExitCode {
             return ExitCode::from(u8::from(!write_pages(Path::new(root))));
         }
     }
-    let [_, root, bench, verdict] = &arguments[..] else {
-        eprintln!("house ROOT BENCH VERDICT, or house --write ROOT");
+    let [_, root, bench, verdict, capture] = &arguments[..] else {
+        eprintln!("house ROOT BENCH VERDICT CAPTURE, or house --write ROOT");
         return ExitCode::from(2);
     };
     let root = Path::new(root);
@@ -75,6 +75,7 @@ fn main() -> ExitCode {
     named_definitions(root, &mut tally);
     scripts(root, bench, &mut tally);
     verdicts(root, verdict, &mut tally);
+    listings(root, capture, &mut tally);
     shown(root, &mut tally);
     println!("{} passed, {} failed", tally.passed, tally.failed);
     ExitCode::from(u8::from(tally.failed > 0))
@@ -242,49 +243,81 @@ fn scripts(root: &Path, bench: &str, tally: &mut Tally) {
     let scripts = below(&root.join("samples"), "lines");
     tally.fact(!scripts.is_empty(), || "samples/ has no script".into());
     for script in scripts {
-        let input = fs::read(&script).unwrap_or_default();
-        answers(bench, &input, &script.with_extension("answers"), tally);
+        answers(&mut Command::new(bench), &content(&script), &script.with_extension("answers"), tally);
     }
 }
 
 /// samples/X.book and samples/X.message are for verdict, and samples/X.verdict is what it prints.
 fn verdicts(root: &Path, verdict: &str, tally: &mut Tally) {
-    let books = below(&root.join("samples"), "book");
-    tally.fact(!books.is_empty(), || "samples/ has no book".into());
-    for book in books {
-        let mut input = fs::read(&book).unwrap_or_default();
-        input.extend(fs::read(book.with_extension("message")).unwrap_or_default());
-        answers(verdict, &input, &book.with_extension("verdict"), tally);
+    let messages = below(&root.join("samples"), "message");
+    tally.fact(!messages.is_empty(), || "samples/ has no message".into());
+    for message in messages {
+        let input = [content(&message.with_extension("book")), content(&message)].concat();
+        answers(&mut Command::new(verdict), &input, &message.with_extension("verdict"), tally);
     }
 }
 
-/// A run of ./verdict in README.md is one on a sample, and shows what that sample's page says.
+/// samples/X.pcap is for capture, and samples/X.listing is what it prints; where there is a samples/X.book, samples/X.choices is what it prints
+/// with that.
+fn listings(root: &Path, capture: &str, tally: &mut Tally) {
+    let captures = below(&root.join("samples"), "pcap");
+    tally.fact(!captures.is_empty(), || "samples/ has no capture".into());
+    for file in captures {
+        let mut list = Command::new(capture);
+        // What it advises on standard error is no part of the listing.
+        list.stderr(Stdio::null());
+        answers(&mut list, &content(&file), &file.with_extension("listing"), tally);
+        let book = file.with_extension("book");
+        if book.exists() {
+            answers(list.arg(book), &content(&file), &file.with_extension("choices"), tally);
+        }
+    }
+}
+
+/// A run of ./verdict or ./capture in README.md is one on a sample, and shows what that sample's page says.
 fn shown(root: &Path, tally: &mut Tally) {
     let readme = text(&root.join("README.md"));
-    let runs: Vec<&str> = readme.split("\n$ ./verdict ").skip(1).collect();
-    tally.fact(!runs.is_empty(), || "README.md shows no run".into());
-    for run in runs {
-        let (call, rest) = run.split_once('\n').unwrap_or_default();
-        let printed = rest.split("```").next().unwrap_or("");
-        let name = call.split('.').next().unwrap_or("");
-        let same = call == format!("{name}.book {name}.message");
-        tally.fact(same && printed == text(&root.join(name).with_extension("verdict")), || {
-            format!("README.md does not show what ./verdict {call} prints")
-        });
+    for program in ["verdict", "capture"] {
+        let runs: Vec<&str> = readme.split(&format!("\n$ ./{program} ")).skip(1).collect();
+        tally.fact(!runs.is_empty(), || format!("README.md shows no run of ./{program}"));
+        for run in runs {
+            let (files, rest) = run.split_once('\n').unwrap_or_default();
+            let shown = rest.split("```").next().unwrap_or("");
+            let said = page_of(program, files).map(|page| text(&root.join(page)));
+            tally.fact(said.as_deref() == Some(shown), || {
+                format!("README.md does not show what ./{program} {files} prints")
+            });
+        }
     }
 }
 
-/// A program prints for this input just what the page says.
-fn answers(program: &str, input: &[u8], page: &Path, tally: &mut Tally) {
-    let printed = printed(program, input);
+/// Where it is said what a program prints of files that are a sample.
+fn page_of(program: &str, files: &str) -> Option<String> {
+    let name = files.split('.').next()?;
+    let kind = match (program, &files.replace(name, "X")[..]) {
+        ("verdict", "X.book X.message") => "verdict",
+        ("capture", "X.pcap") => "listing",
+        ("capture", "X.pcap X.book") => "choices",
+        _ => return None,
+    };
+    Some(format!("{name}.{kind}"))
+}
+
+fn content(path: &Path) -> Vec<u8> {
+    fs::read(path).unwrap_or_default()
+}
+
+/// A call prints for this input just what the page says.
+fn answers(call: &mut Command, input: &[u8], page: &Path, tally: &mut Tally) {
+    let printed = printed(call, input);
     let expected = fs::read(page).ok();
     tally.fact(printed.is_some() && printed == expected, || {
-        format!("{program} does not print what {} says", page.display())
+        format!("{} does not print what {} says", call.get_program().to_string_lossy(), page.display())
     });
 }
 
-fn printed(program: &str, input: &[u8]) -> Option<Vec<u8>> {
-    let mut child = Command::new(program).stdin(Stdio::piped()).stdout(Stdio::piped()).spawn().ok()?;
+fn printed(call: &mut Command, input: &[u8]) -> Option<Vec<u8>> {
+    let mut child = call.stdin(Stdio::piped()).stdout(Stdio::piped()).spawn().ok()?;
     // Samples are far smaller than a pipe, so writing all before reading cannot wait for ever.
     child.stdin.take()?.write_all(input).ok()?;
     child.wait_with_output().ok().map(|output| output.stdout)
