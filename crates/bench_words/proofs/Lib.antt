@@ -1,4 +1,4 @@
 mod HexLaws
 mod NumberLaws
-mod SayLaws
+pub mod SayLaws
 mod WordLaws

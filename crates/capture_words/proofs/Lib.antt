@@ -1,0 +1,3 @@
+mod Decimal
+mod Examples
+mod Ways
