@@ -7,6 +7,7 @@ pub mod OneAnswerMessage
 pub mod OneAnswerPolicy
 pub mod OneAnswerQuick
 pub mod OneAnswerSequence
+pub mod OneAnswerCapture
 pub mod OneAnswerExports
 pub mod OneAnswerBench
 pub mod Messages
@@ -19,5 +20,8 @@ pub mod PolicySuits
 pub mod Reply
 pub mod SequenceAnswers
 pub mod Sequence
+pub mod Captures
+pub mod CaptureAnswers
+pub mod CaptureExamples
 pub mod Quick
 pub mod KeptBuffers

@@ -58,7 +58,7 @@ bench-words-find κs arguments x y s t p q =
     (λ n. let least = ltb-false x y m in let most = ltb-false y x n in omega arith))
 
 -- what was put and the place behind it follow from where and what was put
-said-once : (put after after′ : Bytes) (end r r′ : ℕ) → (after ≡ put) × (r ≡ min end (length after)) →
+pub said-once : (put after after′ : Bytes) (end r r′ : ℕ) → (after ≡ put) × (r ≡ min end (length after)) →
     (after′ ≡ put) × (r′ ≡ min end (length after′)) → _≡_ {A = ℕ × Bytes} (r, after) (r′, after′)
 said-once put after after′ end r r′ p q =
     let same = p .0 ∙ sym (q .0) in

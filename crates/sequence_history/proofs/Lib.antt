@@ -1,5 +1,5 @@
 pub mod Record
-mod Table
+pub mod Table
 pub mod Ways
 mod Calls
 pub mod Runs

@@ -1,0 +1,3 @@
+mod Packets
+pub mod Records
+pub mod Runs
