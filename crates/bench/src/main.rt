@@ -1,6 +1,7 @@
 // Reads lines from standard input and writes one line of answer to standard output for each, in order. What the lines are
 // stands in verbs.rt and, for the quick mode ends, in bench_ends. Input of any length goes through four buffers that main
 // makes once and lends to everything below, as it does the table of SA entries and the kept buffers of the ends.
+mod captured;
 mod choosing;
 mod element;
 mod identification;

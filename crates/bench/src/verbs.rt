@@ -2,6 +2,7 @@
 // ends are bench_ends's.
 use crate::LONGEST;
 use crate::State;
+use crate::captured;
 use crate::choosing;
 use crate::element;
 use crate::flush;
@@ -146,6 +147,9 @@ fn table_verbs(
     }
     if (words == 4) & equal(verb, b"loss") {
         return lives::loss(line, lives, out, said);
+    }
+    if (words == 3) & equal(verb, b"frame") {
+        return captured::answer(line, lives, bytes, out, said);
     }
     say::bad_line(out, said)
 }
