@@ -1,12 +1,12 @@
 //! The lines of `bench`: takes them in and gives their answers out.
 
-use crate::message::{self, Payload, Reading};
+use crate::message::{self, Reading};
 use crate::policy::{self, Book, Choice};
 use crate::quick_lines::Ends;
 use crate::refusal::Refusal;
 use crate::reply::{self, Spis};
 use crate::sequence::{Key, Loss, Receive, Table};
-use crate::{der, identity, lines, port4500};
+use crate::{der, identity, lines, port4500, record};
 use std::io::{self, BufRead, BufReader, Read, Write};
 
 const LONGEST_LINE: usize = 65_535;
@@ -51,6 +51,10 @@ impl Bench {
                 let (integrity, packet) = (lines::yes_or_no(integrity)?, lines::bytes(packet)?);
                 Some(accepted(self.table.packet(destination, protocol, integrity, &packet)))
             }
+            [b"frame", original, bytes] => {
+                let (original, bytes) = (lines::decimal(original)?, lines::bytes(bytes)?);
+                Some(record::listed(&mut self.table, None, original, &bytes))
+            }
             [verb @ (b"add" | b"remove" | b"send" | b"loss"), destination, protocol, spi] => {
                 self.entry(verb, key(destination, protocol, spi)?)
             }
@@ -93,9 +97,8 @@ fn accepted(outcome: Result<(), Refusal>) -> String {
     answer(outcome, |()| "accepted".to_string())
 }
 
-fn reading(Reading { exchange, payloads }: Reading) -> String {
-    let places = payloads.iter().map(|Payload { kind, start, length }| format!(" {kind}@{start}+{length}"));
-    format!("read {exchange} {}{}", payloads.len(), places.collect::<String>())
+fn reading(reading: Reading) -> String {
+    format!("read {} {}{}", reading.exchange, reading.payloads.len(), reading.places())
 }
 
 fn line_counts(Book { main, quick }: Book) -> String {
@@ -215,6 +218,21 @@ mod tests {
         fn flush(&mut self) -> io::Result<()> {
             Ok(())
         }
+    }
+
+    #[test]
+    fn a_frame_goes_to_the_table_of_the_lines() {
+        let mut bench = Bench::default();
+        let mut said = |line: &str| bench.answer(line.as_bytes()).unwrap_or_default();
+        let frame = "00000000000000000000000008004500001c00000000403200000a0000010a0000020000010000000002";
+        assert_eq!(said("frame 4294967295 -"), "cut short");
+        for original in ["4294967296", "042", "-1", "x", ""] {
+            assert_eq!(said(&format!("frame {original} {frame}")), "bad line");
+        }
+        assert_eq!(said("loss 0a000002 3 00000100"), "refused 11");
+        assert_eq!(said(&format!("frame 42 {frame}")), "10.0.0.1 > 10.0.0.2 ESP 00000100 number 2 accepted");
+        assert_eq!(said("loss 0a000002 3 00000100"), "loss 2 2 1");
+        assert_eq!(said("packet 0a000002 3 yes 0000010000000002"), "refused 8194");
     }
 
     #[test]

@@ -1,8 +1,10 @@
-//! The second program, written from document 01 alone. Each rule has a room of its own; `bench` and `verdict` are what a
-//! caller sees of them. It is a library so that the makers of test lines can use what it writes.
+//! The second program, written from document 01 and the requests alone. Each rule has a room of its own; `bench`, `verdict`
+//! and `capture` are what a caller sees of them. It is a library so that the makers of test lines can use what it writes.
 
 pub mod bench;
+pub mod capture;
 mod der;
+mod frame;
 mod identity;
 mod lines;
 mod message;
@@ -12,6 +14,7 @@ mod port4500;
 mod quick;
 mod quick_lines;
 mod quick_messages;
+mod record;
 mod refusal;
 mod reply;
 mod sequence;

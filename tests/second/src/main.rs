@@ -1,6 +1,8 @@
-//! The second program: answers the lines of `bench`. `second verdict` is a verdict program instead.
+//! The second program: answers the lines of `bench`. `second verdict` is a verdict program instead, and `second capture`
+//! lists a capture, with a book whose path is given.
 
-use second::{bench, verdict};
+use second::{bench, capture, verdict};
+use std::fs;
 use std::io::{self, BufWriter};
 
 fn main() {
@@ -10,8 +12,10 @@ fn main() {
     let outcome = match arguments.iter().map(String::as_str).collect::<Vec<_>>()[..] {
         [] => bench::answer_all(input, &mut output),
         ["verdict"] => verdict::answer(input, &mut output),
+        ["capture"] => capture::answer(input, None, &mut output),
+        ["capture", book] => fs::read(book).and_then(|book| capture::answer(input, Some(&book), &mut output)),
         _ => {
-            eprintln!("usage: second [verdict]");
+            eprintln!("usage: second [verdict | capture [BOOK]]");
             std::process::exit(2);
         }
     };

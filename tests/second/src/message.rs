@@ -41,6 +41,12 @@ pub struct Payload {
 }
 
 impl Reading {
+    /// Type, start and length of each payload, as lines have them.
+    pub fn places(&self) -> String {
+        let place = |Payload { kind, start, length }: &Payload| format!(" {kind}@{start}+{length}");
+        self.payloads.iter().map(place).collect()
+    }
+
     /// The body of the SA payload, if the message that was read has one.
     pub fn sa_body<'a>(&self, message: &'a [u8]) -> Option<&'a [u8]> {
         self.payloads.iter().find(|payload| payload.kind == SA).map(|sa| sa.body(message))

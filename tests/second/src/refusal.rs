@@ -1,4 +1,4 @@
-//! Document 01, "Numbers an answer can carry": those that this program gives.
+//! Document 01, "Numbers an answer can carry", and request one: those that this program gives.
 
 pub type Refusal = u16;
 
@@ -32,6 +32,7 @@ pub const ZERO_OR_BEHIND: Refusal = 8_197;
 pub const COUNTER_AT_END: Refusal = 8_198;
 pub const TABLE_FULL: Refusal = 8_199;
 pub const ENTRY_PRESENT: Refusal = 8_200;
+pub const CAPTURE: Refusal = 8_201;
 
 /// One check: its number if the test finds something wrong.
 pub fn refuse_if(wrong: bool, number: Refusal) -> Result<(), Refusal> {

@@ -10,8 +10,8 @@ use std::collections::{BTreeMap, BTreeSet};
 const MOST_ENTRIES: usize = 64;
 const LOWEST_SPI: u32 = 256;
 const SPAN: u32 = 64;
-const AH: u8 = 2;
-const ESP: u8 = 3;
+pub const AH: u8 = 2;
+pub const ESP: u8 = 3;
 const AH_LEAST: usize = 12;
 const ESP_LEAST: usize = 8;
 

@@ -31,14 +31,15 @@ fn lines(bytes: &[u8]) -> Result<String, Refusal> {
         lines += &format!("payload {kind} at {start} length {length}\n");
     }
     if reading.sa_body(message).is_some() {
-        lines += &policy::choose_from(&book, message, &reading).map_or_else(refused, chosen);
+        lines += &policy::choose_from(&book, message, &reading).map_or_else(refused, |choice| chosen(choice) + "\n");
     }
     Ok(lines)
 }
 
-fn chosen(Choice { set, line, taken }: Choice) -> String {
+/// A choice as a line without its end.
+pub fn chosen(Choice { set, line, taken }: Choice) -> String {
     let transforms: String = taken.iter().map(|taken| format!(" {}", taken.transform.number)).collect();
-    format!("chosen set {set} line {line} transforms{transforms}\n")
+    format!("chosen set {set} line {line} transforms{transforms}")
 }
 
 #[cfg(test)]
