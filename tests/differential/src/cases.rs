@@ -8,11 +8,14 @@ pub struct Case {
     pub kind: &'static str,
     /// What is particular about it among those of its kind.
     pub detail: String,
-    /// Whole lines; only in a case that runs alone may the last one lack its line end. Or a book and a message.
+    /// Whole lines; only in a case that runs alone may the last one lack its line end. Or a book and a message, or a
+    /// capture.
     pub input: Vec<u8>,
     /// One for each answer owed: the right one, or `None` where only agreement is asked.
     pub answers: Vec<Option<String>>,
     pub programs: ProgramsOf,
+    /// What capture programs are given beside the capture.
+    pub book: Option<Vec<u8>>,
     /// What is offered, where the message can be read and answers are counted by it.
     pub offer: Option<Offer>,
 }
@@ -26,6 +29,8 @@ pub enum ProgramsOf {
     LinesAlone,
     /// The verdict programs, whose whole output is one answer. The input comes in pieces of so many bytes.
     Verdicts { piece: usize },
+    /// The capture programs, likewise.
+    Captures { piece: usize },
 }
 
 impl Case {
@@ -140,8 +145,16 @@ impl Cases {
         self.add(input, vec![lines.map(|lines| lines.join(LINE_END_SHOWN))], ProgramsOf::Verdicts { piece });
     }
 
+    /// A capture that a pair of capture programs gets to read, in pieces of so many bytes, and the lines of its listing where
+    /// those are known.
+    pub fn capture(&mut self, input: Vec<u8>, piece: usize, book: Option<&[u8]>, lines: Option<Vec<String>>) {
+        self.add(input, vec![lines.map(|lines| lines.join(LINE_END_SHOWN))], ProgramsOf::Captures { piece });
+        self.made.last_mut().expect("it was made").book = book.map(<[u8]>::to_vec);
+    }
+
     fn add(&mut self, input: Vec<u8>, answers: Vec<Option<String>>, programs: ProgramsOf) {
-        self.made.push(Case { kind: self.kind, detail: self.detail.clone(), input, answers, programs, offer: None });
+        let (kind, detail) = (self.kind, self.detail.clone());
+        self.made.push(Case { kind, detail, input, answers, programs, book: None, offer: None });
     }
 }
 

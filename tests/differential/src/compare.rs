@@ -43,8 +43,10 @@ pub fn compare(programs: &Programs, cases: &[Case], in_order: bool, agreed: &mut
     let mut comparison = Comparison::default();
     for run in runs_of(cases, in_order) {
         match run[0].1.programs {
-            ProgramsOf::Verdicts { .. } => compare_verdicts(programs, run[0], &mut comparison, agreed),
-            _ => compare_run(programs, &run, &mut comparison, agreed),
+            ProgramsOf::Verdicts { .. } | ProgramsOf::Captures { .. } => {
+                compare_whole_outputs(programs, run[0], &mut comparison, agreed);
+            }
+            ProgramsOf::Lines | ProgramsOf::LinesAlone => compare_run(programs, &run, &mut comparison, agreed),
         }
     }
     comparison
@@ -61,7 +63,9 @@ pub fn runs_of(cases: &[Case], in_order: bool) -> Vec<Vec<(usize, &Case)>> {
 /// What the programs of a run get to read, in the pieces in which it comes.
 pub fn input_of(run: &[(usize, &Case)]) -> Vec<Vec<u8>> {
     match run[0].1.programs {
-        ProgramsOf::Verdicts { piece } => run[0].1.input.chunks(piece).map(<[u8]>::to_vec).collect(),
+        ProgramsOf::Verdicts { piece } | ProgramsOf::Captures { piece } => {
+            run[0].1.input.chunks(piece).map(<[u8]>::to_vec).collect()
+        }
         _ => vec![run.iter().map(|(_, case)| case.input.as_slice()).collect::<Vec<_>>().concat()],
     }
 }
@@ -92,15 +96,19 @@ fn compare_run(programs: &Programs, cases: &[(usize, &Case)], comparison: &mut C
 }
 
 /// The whole output is one answer.
-fn compare_verdicts(programs: &Programs, case: (usize, &Case), comparison: &mut Comparison, agreed: &mut Agreed) {
-    let [verdict, second] = programs.run_verdicts(input_of(&[case]));
-    for (name, run) in [("verdict", &verdict), ("second verdict", &second)] {
-        let failure = run.failure.as_ref().map(|failure| format!("{name}, in case {}: {failure}", case.0));
+fn compare_whole_outputs(programs: &Programs, case: (usize, &Case), comparison: &mut Comparison, agreed: &mut Agreed) {
+    let pieces = input_of(&[case]);
+    let ([core, second], name) = match case.1.programs {
+        ProgramsOf::Captures { .. } => (programs.run_captures(pieces, case.1.book.as_deref()), "capture"),
+        _ => (programs.run_verdicts(pieces), "verdict"),
+    };
+    for (owner, run) in [("", &core), ("second ", &second)] {
+        let failure = run.failure.as_ref().map(|failure| format!("{owner}{name}, in case {}: {failure}", case.0));
         comparison.failures.extend(failure);
     }
     let whole = |output: &[u8]| lines(output).map(shown).collect::<Vec<_>>().join(LINE_END_SHOWN) + "\n";
-    let [verdict, second] = [verdict, second].map(|run| whole(&run.output).into_bytes());
-    compare_answers(&[case], &verdict, &second, comparison, agreed);
+    let [core, second] = [core, second].map(|run| whole(&run.output).into_bytes());
+    compare_answers(&[case], &core, &second, comparison, agreed);
 }
 
 fn failure(run: &Run, owed: usize) -> Option<String> {
@@ -172,6 +180,7 @@ mod tests {
             input: input.to_vec(),
             answers: known.iter().map(|answer| answer.map(str::to_string)).collect(),
             programs: ProgramsOf::Lines,
+            book: None,
             offer: None,
         }
     }

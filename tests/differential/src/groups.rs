@@ -2,6 +2,7 @@
 //! cases with their makers.
 
 mod books;
+mod captures;
 mod choices;
 mod deliveries;
 mod der_damage;
@@ -10,6 +11,7 @@ mod der_small;
 mod der_trees;
 mod ends;
 mod exchanges;
+mod frames;
 mod identities;
 mod lines;
 mod message_checks;
@@ -45,13 +47,23 @@ pub struct Group {
     pub also: Answers,
     /// Whether an answer hangs on the lines before, so that a case by itself means nothing.
     pub in_order: bool,
+    /// Whether an answer is a listing, of which every line counts; else its last line does.
+    pub listings: bool,
     pub occasions: &'static [Occasion],
     pub kinds: &'static [(&'static str, Maker)],
 }
 
 /// What most groups do without. A group that does not say how often its answers must occur fails.
-const PLAIN: Group =
-    Group { name: "", answers: &[], at_least: usize::MAX, also: &[], in_order: false, occasions: &[], kinds: &[] };
+const PLAIN: Group = Group {
+    name: "",
+    answers: &[],
+    at_least: usize::MAX,
+    also: &[],
+    in_order: false,
+    listings: false,
+    occasions: &[],
+    kinds: &[],
+};
 
 pub const ALL: &[Group] = &[
     der_trees::GROUP,
@@ -70,10 +82,12 @@ pub const ALL: &[Group] = &[
     sequence_table::GROUP,
     sequence_packets::GROUP,
     sequence_lines::GROUP,
+    frames::GROUP,
     books::GROUP,
     choices::GROUP,
     replies::GROUP,
     verdicts::GROUP,
+    captures::GROUP,
     ends::GROUP,
     deliveries::GROUP,
     exchanges::GROUP,
@@ -154,7 +168,7 @@ mod tests {
     #[test]
     fn every_number_must_occur_fifty_times_in_some_group() {
         let of_table_17 = [1, 2, 3, 4, 5, 6, 7, 8, 9, 10, 11, 13, 14, 15, 16, 18, 19, 23, 24, 29, 30];
-        let own = [8_192, 8_193, 8_194, 8_195, 8_196, 8_197, 8_199, 8_200];
+        let own = [8_192, 8_193, 8_194, 8_195, 8_196, 8_197, 8_199, 8_200, 8_201];
         for number in of_table_17.into_iter().chain(own) {
             let is_wanted = |group: &Group| group.wanted().any(|kind| kind == refused(number));
             assert!(ALL.iter().any(|group| group.at_least >= 50 && is_wanted(group)), "{number}");

@@ -1,10 +1,12 @@
 //! The makers of cases and the comparison. It is a library so that the same cases can be put to other programs.
 
+mod capture;
 pub mod cases;
 mod checks;
 pub mod compare;
 mod damage;
 mod exchange;
+mod frame;
 pub mod groups;
 mod identity;
 mod layout;

@@ -1,5 +1,5 @@
-//! Feeds the same lines to `bench` and to the second program, and the same books and messages to `verdict` and to the
-//! second program's own, and compares every answer; see ../README.md.
+//! Feeds the same lines to `bench` and to the second program, the same books and messages to `verdict` and the same captures
+//! to `capture` and to the second program's own, and compares every answer; see ../README.md.
 
 use differential::cases::{Case, LINE_END_SHOWN};
 use differential::compare::{compare, Comparison, Difference};
@@ -7,6 +7,7 @@ use differential::groups::{self, Group};
 use differential::programs::Programs;
 use differential::DEFAULT_SEED;
 use std::collections::BTreeMap;
+use std::path::PathBuf;
 use std::sync::atomic::{AtomicUsize, Ordering};
 use std::sync::Mutex;
 use std::thread;
@@ -29,11 +30,9 @@ struct Request {
 }
 
 fn request(mut arguments: impl Iterator<Item = String>) -> Option<Request> {
-    let bench = arguments.next()?.into();
-    let second = arguments.next()?.into();
-    let verdict = arguments.next()?.into();
+    let mut program = || arguments.next().map(PathBuf::from);
+    let programs = Programs::new([program()?, program()?, program()?, program()?]);
     let groups = groups::ALL.iter().collect();
-    let programs = Programs::new(bench, second, verdict);
     let mut request = Request { programs, seed: DEFAULT_SEED, groups, case: None };
     while let Some(option) = arguments.next() {
         let value = arguments.next()?;
@@ -56,7 +55,7 @@ fn request(mut arguments: impl Iterator<Item = String>) -> Option<Request> {
 
 fn usage() -> ! {
     let names: Vec<_> = groups::ALL.iter().map(|group| group.name).collect();
-    eprintln!("usage: differential BENCH SECOND VERDICT [--seed N] [--only GROUP,.. | --only GROUP:CASE]");
+    eprintln!("usage: differential BENCH SECOND VERDICT CAPTURE [--seed N] [--only GROUP,.. | --only GROUP:CASE]");
     eprintln!("groups: {}", names.join(", "));
     std::process::exit(2)
 }
@@ -158,8 +157,8 @@ impl Counts {
     }
 
     fn add(&mut self, group: &Group, case: &Case, answers: &[String]) {
-        for answer in answers {
-            *self.kinds.entry(kind_of(answer)).or_default() += 1;
+        for kind in answers.iter().flat_map(|answer| kinds_of(group, answer)) {
+            *self.kinds.entry(kind).or_default() += 1;
         }
         for (count, (_, _, occurs)) in self.occasions.iter_mut().zip(group.occasions) {
             *count += usize::from(occurs(case, answers));
@@ -214,7 +213,10 @@ fn run_case(request: &Request, group: &Group, number: usize, tally: &mut Tally) 
     if !group.in_order {
         cases.drain(..number);
     }
-    cases.iter().for_each(|case| tally.say(&case.input.escape_ascii().to_string()));
+    for case in &cases {
+        tally.say(&case.input.escape_ascii().to_string());
+        case.book.iter().for_each(|book| tally.say(&format!("book {}", book.escape_ascii())));
+    }
     let mut agreed = Vec::new();
     let comparison = compare(&request.programs, &cases, group.in_order, &mut |_, answers| agreed = answers.to_vec());
     tally.say(&format!("agreed: {}", agreed.join(", ")));
@@ -247,11 +249,12 @@ fn show(request: &Request, group: &Group, case: &Case, difference: &Difference) 
         format!("  second  {}", shortened(&answer(&difference.second))),
         format!("  known   {known}"),
         format!(
-            "  {}: differential {} {} {} --seed {} --only {}:{number}",
+            "  {}: differential {} {} {} {} --seed {} --only {}:{number}",
             if group.in_order { "all lines up to this one" } else { "this case alone and whole" },
             request.programs.bench.display(),
             request.programs.second.display(),
             request.programs.verdict.display(),
+            request.programs.capture.display(),
             request.seed,
             group.name
         ),
@@ -276,19 +279,36 @@ fn shortened(line: &str) -> String {
     format!("{front} ... {} characters left out ... {back}", line.len() - 2 * ENDS_SHOWN)
 }
 
-/// What an answer says without its numbers, bytes and places; a refusal keeps its number. Of several lines the last one
-/// counts.
-fn kind_of(answer: &str) -> String {
-    let answer = answer.rsplit(LINE_END_SHOWN).next().unwrap_or("");
-    if answer.starts_with("refused ") {
-        return answer.to_string();
+/// The kinds that an answer counts for: of a listing each line's, of other answers that of the last line.
+fn kinds_of(group: &Group, answer: &str) -> Vec<String> {
+    let mut kinds: Vec<_> = answer.split(LINE_END_SHOWN).filter(|line| !line.is_empty()).map(kind_of).collect();
+    if group.listings {
+        return kinds;
     }
+    kinds.split_off(kinds.len().saturating_sub(1))
+}
+
+/// What a line says without its numbers, bytes, places and addresses; a refusal keeps its number.
+fn kind_of(line: &str) -> String {
+    let (said, refusal) = line.split_at(line.find("refused ").unwrap_or(line.len()));
     let is_of_value = |byte: u8| matches!(byte, b'0'..=b'9' | b'a'..=b'f' | b'@' | b'+' | b'-');
     // All bytes are looked at, which is faster for long words than to stop at the first that is none.
     let is_value = |word: &str| word.bytes().fold(true, |all, byte| all & is_of_value(byte));
-    let mut words = answer.split(' ');
-    let verb = words.next().unwrap_or("");
-    words.filter(|word| !is_value(word)).fold(verb.to_string(), |kind, word| kind + " " + word)
+    let mut words = without_place_and_addresses(said).split(' ');
+    let verb = words.next();
+    let kept = verb.into_iter().chain(words.filter(|word| !is_value(word))).chain([refusal]);
+    kept.filter(|word| !word.is_empty()).collect::<Vec<_>>().join(" ")
+}
+
+/// What a line of a listing says of its record; any other line as it is.
+fn without_place_and_addresses(line: &str) -> &str {
+    let is_passed =
+        |word: &str| matches!(word, "at" | ">") || word.bytes().all(|byte| byte.is_ascii_digit() || byte == b'.');
+    let mut what = line;
+    while let Some((_, behind)) = what.split_once(' ').filter(|(word, _)| is_passed(word)) {
+        what = behind;
+    }
+    what
 }
 
 #[cfg(test)]
@@ -320,7 +340,23 @@ mod tests {
         assert_eq!(kind_of("kept - ff"), "kept");
         assert_eq!(kind_of("refused 16"), "refused 16");
         assert_eq!(kind_of("bad line"), "bad line");
-        assert_eq!(kind_of("exchange 2 payloads 1 / payload 1 at 28 length 52 / refused 14"), "refused 14");
+        assert_eq!(kind_of("payload 1 at 28 length 52"), "payload at length");
+        assert_eq!(kind_of("  chosen set 1 line 2 transforms 3 4"), "chosen set line transforms");
+        assert_eq!(kind_of("1 at 24 cut short"), "cut short");
+        assert_eq!(kind_of("10.0.0.1 > 10.0.0.2 exchange 2 payloads 1 1@28+52"), "exchange payloads");
+        assert_eq!(kind_of("1 at 24 1.000000 10.0.0.1 > 10.0.0.2 other ports 5 > 6"), "other ports >");
+        assert_eq!(kind_of("10.0.0.1 > 10.0.0.2 refused 16"), "refused 16");
+        assert_eq!(kind_of("1.0.0.1 > 1.0.0.2 ESP 00000100 number 1 refused 8194"), "ESP number refused 8194");
         assert_ne!(kind_of("name (without a line end)"), "name");
+    }
+
+    #[test]
+    fn every_line_of_a_listing_counts_and_the_last_one_of_other_answers() {
+        let named = |name| groups::ALL.iter().find(|group| group.name == name).expect("it is there");
+        let answer = "exchange 2 payloads 1 / payload 1 at 28 length 52 / refused 14";
+        assert_eq!(kinds_of(named("verdicts"), answer), ["refused 14"]);
+        let listing = "1 at 24 0.000000 not IPv4 / 2 at 54 cut short";
+        assert_eq!(kinds_of(named("captures"), listing), ["not IPv4", "cut short"]);
+        assert!(kinds_of(named("captures"), "").is_empty());
     }
 }

@@ -1,11 +1,14 @@
-//! Runs two programs on the same input: `bench` and the second program, or `verdict` and the second program's own.
+//! Runs two programs on the same input: `bench` and the second program, or `verdict` or `capture` and the second
+//! program's own.
 
 use std::io::{Read, Write};
 use std::path::PathBuf;
-use std::process::{Command, Stdio};
+use std::process::{self, Command, Stdio};
+use std::sync::atomic::{AtomicUsize, Ordering};
 use std::sync::{mpsc, Arc};
 use std::thread;
 use std::time::{Duration, Instant};
+use std::{env, fs};
 
 /// All runs together get so long; a program that has not ended by then never will.
 const PATIENCE: Duration = Duration::from_secs(1500);
@@ -19,7 +22,27 @@ pub struct Programs {
     pub bench: PathBuf,
     pub second: PathBuf,
     pub verdict: PathBuf,
+    pub capture: PathBuf,
     started: Instant,
+}
+
+/// A book in a file of its own, for programs that take its path.
+pub struct BookFile(pub PathBuf);
+
+impl BookFile {
+    pub fn new(book: &[u8]) -> BookFile {
+        static MADE: AtomicUsize = AtomicUsize::new(0);
+        let name = format!("differential-{}-{}.book", process::id(), MADE.fetch_add(1, Ordering::Relaxed));
+        let file = BookFile(env::temp_dir().join(name));
+        fs::write(&file.0, book).expect("a book can be written to the folder for temporary files");
+        file
+    }
+}
+
+impl Drop for BookFile {
+    fn drop(&mut self) {
+        let _ = fs::remove_file(&self.0);
+    }
 }
 
 /// What a program wrote, and how it failed if it did.
@@ -29,8 +52,8 @@ pub struct Run {
 }
 
 impl Programs {
-    pub fn new(bench: PathBuf, second: PathBuf, verdict: PathBuf) -> Programs {
-        Programs { bench, second, verdict, started: Instant::now() }
+    pub fn new([bench, second, verdict, capture]: [PathBuf; 4]) -> Programs {
+        Programs { bench, second, verdict, capture, started: Instant::now() }
     }
 
     /// Both run at once; `bench` stands first.
@@ -43,6 +66,18 @@ impl Programs {
         let mut second = Command::new(&self.second);
         second.arg("verdict");
         self.run_both(Command::new(&self.verdict), second, pieces)
+    }
+
+    /// Both run at once; `capture` stands first. What it says beside its listing is for a reader and not compared.
+    pub fn run_captures(&self, pieces: Vec<Vec<u8>>, book: Option<&[u8]>) -> [Run; 2] {
+        let (mut capture, mut second) = (Command::new(&self.capture), Command::new(&self.second));
+        capture.stderr(Stdio::null());
+        second.arg("capture");
+        let file = book.map(BookFile::new);
+        for program in [&mut capture, &mut second] {
+            program.args(file.iter().map(|file| &file.0));
+        }
+        self.run_both(capture, second, pieces)
     }
 
     fn run_both(&self, core: Command, second: Command, pieces: Vec<Vec<u8>>) -> [Run; 2] {

@@ -58,16 +58,57 @@ impl Life {
     }
 }
 
+/// The lives that a table holds.
+#[derive(Default)]
+pub struct Lives(Vec<(Key, Life)>);
+
+impl Lives {
+    fn find(&mut self, key: Key) -> Option<&mut Life> {
+        self.0.iter_mut().find(|(known, _)| *known == key).map(|(_, life)| life)
+    }
+
+    /// Adds the key, or says why not.
+    fn add(&mut self, key: Key) -> Result<(), String> {
+        if !matches!(key.protocol, AH | ESP) {
+            Err(refused(10))
+        } else if key.spi < LOWEST_SPI {
+            Err(refused(11))
+        } else if self.find(key).is_some() {
+            Err(refused(8_200))
+        } else if self.0.len() == MOST_ENTRIES {
+            Err(refused(8_199))
+        } else {
+            self.0.push((key, Life::default()));
+            Ok(())
+        }
+    }
+
+    /// The verdict that a listing has for a well formed packet: an absent key is added first.
+    pub fn listed(&mut self, key: Key, number: u32) -> String {
+        if self.find(key).is_none() {
+            if let Err(refused) = self.add(key) {
+                return refused;
+            }
+        }
+        self.find(key).expect("it was there or was added").verdict(number, true)
+    }
+
+    /// The highest number accepted under that key, 0 if there is none.
+    pub fn highest(&mut self, key: Key) -> u32 {
+        self.find(key).map_or(0, |life| life.highest)
+    }
+}
+
 /// Writes lines and follows what they do. Each maker begins with an empty table and leaves it so.
 pub struct Follower<'a> {
     cases: &'a mut Cases,
-    lives: Vec<(Key, Life)>,
+    pub lives: Lives,
     pub lent: Life,
 }
 
 impl Follower<'_> {
     pub fn new(cases: &mut Cases) -> Follower<'_> {
-        Follower { cases, lives: Vec::new(), lent: Life::default() }
+        Follower { cases, lives: Lives::default(), lent: Life::default() }
     }
 
     pub fn line(&mut self, line: &str, answer: String) {
@@ -91,32 +132,21 @@ impl Follower<'_> {
 
     /// The life under that key; `None` if there is none.
     pub fn life(&mut self, key: Key) -> Option<&mut Life> {
-        self.lives.iter_mut().find(|(known, _)| *known == key).map(|(_, life)| life)
+        self.lives.find(key)
     }
 
     pub fn keys(&self) -> Vec<Key> {
-        self.lives.iter().map(|&(key, _)| key).collect()
+        self.lives.0.iter().map(|&(key, _)| key).collect()
     }
 
     pub fn add(&mut self, key: Key) {
-        let answer = if !matches!(key.protocol, AH | ESP) {
-            refused(10)
-        } else if key.spi < LOWEST_SPI {
-            refused(11)
-        } else if self.life(key).is_some() {
-            refused(8_200)
-        } else if self.lives.len() == MOST_ENTRIES {
-            refused(8_199)
-        } else {
-            self.lives.push((key, Life::default()));
-            "done".to_string()
-        };
+        let answer = self.lives.add(key).map_or_else(|refused| refused, |()| "done".to_string());
         self.line(&format!("add {}", key.words()), answer);
     }
 
     pub fn remove(&mut self, key: Key) {
         let answer = self.life(key).map(|_| "done".to_string());
-        self.lives.retain(|(known, _)| *known != key);
+        self.lives.0.retain(|(known, _)| *known != key);
         self.line(&format!("remove {}", key.words()), answer.unwrap_or(refused(11)));
     }
 
@@ -137,6 +167,11 @@ impl Follower<'_> {
     pub fn loss(&mut self, key: Key) {
         let answer = self.life(key).map(|life| life.loss());
         self.line(&format!("loss {}", key.words()), answer.unwrap_or(refused(11)));
+    }
+
+    /// A record with these bytes and that original length.
+    pub fn frame(&mut self, original: u32, bytes: &[u8], answer: String) {
+        self.line(&format!("frame {original} {}", word(bytes)), answer);
     }
 
     /// A packet that is well formed.
@@ -188,7 +223,7 @@ pub fn esp(spi: u32, number: u32) -> Vec<u8> {
 }
 
 /// Well formed, with something behind its fields or nothing.
-fn random_packet(random: &mut Random, key: Key, number: u32) -> Vec<u8> {
+pub fn random_packet(random: &mut Random, key: Key, number: u32) -> Vec<u8> {
     let behind = random.below(9);
     if key.protocol == ESP {
         return [esp(key.spi, number), random.bytes(behind)].concat();

@@ -2,7 +2,7 @@
 //! look for a difference between that mutant and the core; see ../README.md. What is changed is said in scan.rs, which
 //! finds it by rules, and in named.rs.
 //!
-//! `mutants BENCH VERDICT SOURCES PAGE FOLDER [TEXT..]`: the core's programs, the folder of the second program's sources,
+//! `mutants BENCH VERDICT CAPTURE SOURCES PAGE FOLDER [TEXT..]`: the core's programs, the folder of the second program's sources,
 //! the page with the table of mutants that no input could show, and a folder to build in. With texts only the mutants
 //! whose file and change hold one of them are tried.
 
@@ -14,6 +14,7 @@ mod source;
 mod trials;
 mod workshop;
 
+use differential::cases::ProgramsOf;
 use mutation::Mutation;
 use source::Source;
 use std::collections::BTreeMap;
@@ -27,19 +28,22 @@ use workshop::{Build, Workshop};
 
 /// Which groups are tried first for a source, as they are made for its rules.
 const FIRST_GROUPS: &[(&str, &[&str])] = &[
-    ("bench.rs", &["lines", "sequence-lines", "port", "identities", "choices"]),
+    ("bench.rs", &["lines", "sequence-lines", "port", "identities", "choices", "frames"]),
+    ("capture.rs", &["captures"]),
     ("der.rs", &["der-small", "der-lengths", "der-trees", "der-damage"]),
+    ("frame.rs", &["frames"]),
     ("identity.rs", &["identities"]),
     ("lines.rs", &["lines", "sequence-lines", "ends", "replies"]),
-    ("main.rs", &["port", "verdicts"]),
+    ("main.rs", &["port", "verdicts", "captures"]),
     ("message.rs", &["message-checks", "messages", "message-damage", "ends"]),
     ("offer.rs", &["offer-checks", "offer-damage", "choices"]),
     ("policy.rs", &["books", "choices"]),
-    ("port4500.rs", &["port"]),
+    ("port4500.rs", &["port", "frames"]),
     ("quick.rs", &["ends", "deliveries", "exchanges"]),
     ("quick_lines.rs", &["ends", "deliveries", "exchanges"]),
     ("quick_messages.rs", &["ends", "deliveries", "exchanges"]),
-    ("refusal.rs", &["message-checks", "sequence-table", "books", "replies", "ends"]),
+    ("record.rs", &["frames", "captures"]),
+    ("refusal.rs", &["message-checks", "sequence-table", "books", "replies", "ends", "captures"]),
     ("reply.rs", &["replies", "ends"]),
     ("sequence.rs", &["sequence-packets", "sequence-window", "sequence-table"]),
     ("verdict.rs", &["verdicts"]),
@@ -47,18 +51,12 @@ const FIRST_GROUPS: &[(&str, &[&str])] = &[
     ("write.rs", &["replies", "ends", "deliveries"]),
 ];
 
-/// The sources that `second verdict` never comes to: there its many runs could show nothing.
-const NOT_OF_VERDICTS: &[&str] = &[
-    "bench.rs",
-    "lines.rs",
-    "port4500.rs",
-    "quick.rs",
-    "quick_lines.rs",
-    "quick_messages.rs",
-    "reply.rs",
-    "sequence.rs",
-    "write.rs",
-];
+/// The sources that neither `second verdict` nor `second capture` comes to: there their many runs could show nothing.
+const OF_LINES_ALONE: &[&str] =
+    &["bench.rs", "lines.rs", "quick.rs", "quick_lines.rs", "quick_messages.rs", "reply.rs", "write.rs"];
+
+/// Those that `second capture` comes to and `second verdict` does not.
+const OF_CAPTURES: &[&str] = &["capture.rs", "frame.rs", "port4500.rs", "record.rs", "sequence.rs"];
 
 /// So many runs are tried with a program that is built soon; one that is still unnoticed is built for all of them.
 const RUNS_OF_A_SOON_BUILD: usize = 12;
@@ -66,6 +64,7 @@ const RUNS_OF_A_SOON_BUILD: usize = 12;
 struct Request {
     bench: PathBuf,
     verdict: PathBuf,
+    capture: PathBuf,
     sources: PathBuf,
     page: PathBuf,
     folder: PathBuf,
@@ -81,15 +80,16 @@ impl Request {
 }
 
 fn request(arguments: &[String]) -> Option<Request> {
-    let [bench, verdict, sources, page, folder, texts @ ..] = arguments else { return None };
-    let [bench, verdict, sources, page, folder] = [bench, verdict, sources, page, folder].map(PathBuf::from);
-    Some(Request { bench, verdict, sources, page, folder, texts: texts.to_vec() })
+    let [bench, verdict, capture, sources, page, folder, texts @ ..] = arguments else { return None };
+    let [bench, verdict, capture] = [bench, verdict, capture].map(PathBuf::from);
+    let [sources, page, folder] = [sources, page, folder].map(PathBuf::from);
+    Some(Request { bench, verdict, capture, sources, page, folder, texts: texts.to_vec() })
 }
 
 fn main() -> ExitCode {
     let arguments: Vec<String> = std::env::args().skip(1).collect();
     let Some(request) = request(&arguments) else {
-        eprintln!("usage: mutants BENCH VERDICT SOURCES PAGE FOLDER [TEXT..]");
+        eprintln!("usage: mutants BENCH VERDICT CAPTURE SOURCES PAGE FOLDER [TEXT..]");
         return ExitCode::from(2);
     };
     match try_all(&request) {
@@ -133,7 +133,7 @@ fn try_all(request: &Request) -> Result<bool, String> {
     stale.iter().for_each(|line| println!("{line}"));
 
     let workshop = Workshop::new(request.folder.clone(), &sources)?;
-    let mut trier = Trier::new(trials::all(&request.bench, &request.verdict)?, workshop)?;
+    let mut trier = Trier::new(trials::all([&request.bench, &request.verdict, &request.capture])?, workshop)?;
     let mut log = File::create(request.folder.join("log")).map_err(|error| error.to_string())?;
     let mut tally = Tally { wrong_entries: stale.len(), ..Tally::default() };
     for (source, mutation) in mutants.iter().filter(|(_, mutation)| request.asks_for(mutation)) {
@@ -254,7 +254,11 @@ impl Trier {
             let group = groups.iter().position(|group| *group == self.trials[*run].group);
             (latest.unwrap_or(usize::MAX), group.unwrap_or(usize::MAX))
         };
-        let is_reached = |run: &usize| !(self.trials[*run].of_verdicts && NOT_OF_VERDICTS.contains(&file));
+        let is_reached = |run: &usize| match self.trials[*run].programs {
+            ProgramsOf::Lines | ProgramsOf::LinesAlone => true,
+            ProgramsOf::Verdicts { .. } => !OF_LINES_ALONE.contains(&file) && !OF_CAPTURES.contains(&file),
+            ProgramsOf::Captures { .. } => !OF_LINES_ALONE.contains(&file),
+        };
         let mut order: Vec<usize> = (0..self.trials.len()).filter(is_reached).collect();
         order.sort_by_key(rank);
         order

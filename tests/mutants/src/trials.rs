@@ -3,7 +3,7 @@
 
 use differential::cases::ProgramsOf;
 use differential::compare::{input_of, runs_of};
-use differential::programs::{run, Run};
+use differential::programs::{run, BookFile, Run};
 use differential::{groups, DEFAULT_SEED};
 use std::hash::{DefaultHasher, Hasher};
 use std::path::Path;
@@ -20,8 +20,9 @@ const MOST_MEMORY: &str = "1000000";
 
 pub struct Trial {
     pub group: &'static str,
-    pub of_verdicts: bool,
+    pub programs: ProgramsOf,
     input: Arc<Vec<Vec<u8>>>,
+    book: Option<BookFile>,
     answers: Digest,
 }
 
@@ -36,19 +37,26 @@ fn digest(output: &[u8]) -> Digest {
 }
 
 /// All runs with the seed of the ordinary run.
-pub fn all(bench: &Path, verdict: &Path) -> Result<Vec<Trial>, String> {
+pub fn all([bench, verdict, capture]: [&Path; 3]) -> Result<Vec<Trial>, String> {
     let mut trials = Vec::new();
     for group in groups::ALL {
         let cases = group.cases(DEFAULT_SEED);
         for cases in runs_of(&cases, group.in_order) {
-            let of_verdicts = matches!(cases[0].1.programs, ProgramsOf::Verdicts { .. });
+            let (_, case) = cases[0];
             let input = Arc::new(input_of(&cases));
-            let core = Command::new(if of_verdicts { verdict } else { bench });
+            let book = case.book.as_deref().map(BookFile::new);
+            let mut core = Command::new(match case.programs {
+                ProgramsOf::Lines | ProgramsOf::LinesAlone => bench,
+                ProgramsOf::Verdicts { .. } => verdict,
+                ProgramsOf::Captures { .. } => capture,
+            });
+            core.args(book.iter().map(|file| &file.0)).stderr(Stdio::null());
             let Run { output, failure } = run(core, &input, PATIENCE);
             if let Some(failure) = failure {
                 return Err(format!("{}: the core failed: {failure}", group.name));
             }
-            trials.push(Trial { group: group.name, of_verdicts, input, answers: digest(&output) });
+            let (programs, answers) = (case.programs, digest(&output));
+            trials.push(Trial { group: group.name, programs, input, book, answers });
         }
     }
     Ok(trials)
@@ -60,9 +68,11 @@ impl Trial {
         let mut limited = Command::new("sh");
         let limits = "ulimit -v \"$0\"; ulimit -t \"$1\"; shift; exec \"$@\"";
         limited.args(["-c", limits, MOST_MEMORY, MOST_TIME]).arg(program).stderr(Stdio::null());
-        if self.of_verdicts {
-            limited.arg("verdict");
-        }
+        match self.programs {
+            ProgramsOf::Lines | ProgramsOf::LinesAlone => &mut limited,
+            ProgramsOf::Verdicts { .. } => limited.arg("verdict"),
+            ProgramsOf::Captures { .. } => limited.arg("capture").args(self.book.iter().map(|file| &file.0)),
+        };
         let Run { output, failure } = run(limited, &self.input, PATIENCE);
         let unlike = || (digest(&output) != self.answers).then(|| "other answers".to_string());
         failure.or_else(unlike)

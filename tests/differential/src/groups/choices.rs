@@ -51,7 +51,7 @@ pub const GROUP: Group = Group {
         ("protocols of a set", protocols_of_a_set),
         ("sets in every order", sets_in_every_order),
         ("a set's proposals are no alternatives", no_alternatives),
-        ("planted set, line and transform", planted),
+        (PLANTED, planted),
         ("several suiting lines", several_lines),
         ("several suiting transforms", several_transforms),
         ("largest offer and largest book", largest),
@@ -67,6 +67,9 @@ pub const GROUP: Group = Group {
     ],
     ..PLAIN
 };
+
+/// The kind in which sets, lines and transforms other than the first are chosen.
+pub const PLANTED: &str = "planted set, line and transform";
 
 /// The kind of which not every case is a pair.
 pub const WORDS: &str = "words of the line";
