@@ -574,10 +574,10 @@ fn full_tables(random: &mut Random, cases: &mut Cases) {
                 follower.add(key);
             }
             // 0 is refused, and its key was added all the same.
-            add_packet(random, &mut follower, key, random_number(place));
+            add_packet(random, &mut follower, key, small_number(place));
         }
         for (place, &key) in keys.iter().enumerate() {
-            add_packet(random, &mut follower, key, 1 + random_number(place));
+            add_packet(random, &mut follower, key, 1 + small_number(place));
             follower.loss(key);
             if place % 16 == 5 {
                 follower.remove(key);
@@ -596,7 +596,7 @@ fn full_tables(random: &mut Random, cases: &mut Cases) {
 }
 
 /// A few small numbers, 0 among them.
-fn random_number(place: usize) -> u32 {
+fn small_number(place: usize) -> u32 {
     place as u32 % 3
 }
 
@@ -840,8 +840,7 @@ fn words(random: &mut Random, cases: &mut Cases) {
     follower.remove_all();
     // The longest line, and one of a byte more.
     for (size, original) in [(32_763, "0"), (32_763, "00"), (32_762, "100"), (32_762, "4000"), (32_759, "4294967295")] {
-        let mut long = Frame::plain(253, vec![0; size - 34]);
-        long.padding.clear();
+        let long = Frame::plain(253, vec![0; size - 34]);
         let line = format!("frame {original} {}", word(&long.encode()));
         let answer = match original {
             "00" => "bad line".to_string(),
