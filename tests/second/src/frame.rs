@@ -16,8 +16,8 @@ const IP_HEADER_LEAST: usize = 20;
 const UDP_HEADER_SIZE: usize = 8;
 const KEY_EXCHANGE_PORT: u16 = 500;
 const NAT_PORT: u16 = 4500;
-const MORE_FRAGMENTS: u16 = 0x2000;
-const FRAGMENT_OFFSET: u16 = 0x1fff;
+/// "More fragments" and the fragment offset.
+const FRAGMENTED: u16 = 0x3fff;
 
 /// What a frame is. Only a packet that is whole so far has addresses.
 pub enum Frame<'a> {
@@ -82,7 +82,7 @@ fn ipv4(bytes: &[u8]) -> Frame<'_> {
     if total > bytes.len() {
         return Frame::CutShort;
     }
-    let carries = if u16_at(bytes, 6) & (MORE_FRAGMENTS | FRAGMENT_OFFSET) != 0 {
+    let carries = if u16_at(bytes, 6) & FRAGMENTED != 0 {
         Carries::Fragment
     } else {
         // What stands behind the total length is padding.
