@@ -41,8 +41,11 @@ pub const GROUP: Group = Group {
     in_order: true,
     occasions: &[
         ("lines `frame`", 100_000, |case, answers| case.input.starts_with(b"frame ") && answers != ["bad line"]),
-        ("a key added and its number refused", 50, |_, answers| {
-            answers.iter().any(|answer| answer.ends_with(" number 0 refused 8197"))
+        ("a key added first, its number accepted", 500, |case, answers| {
+            EMPTY_BEFORE.contains(&case.kind) && answers.iter().any(|answer| answer.ends_with(" accepted"))
+        }),
+        ("a key added first, its number refused", 20, |case, answers| {
+            EMPTY_BEFORE.contains(&case.kind) && answers.iter().any(|answer| answer.ends_with(" number 0 refused 8197"))
         }),
         ("a message behind two tags", 50, |case, answers| {
             let tagged = case.input.split(|&byte| byte == b' ').nth(2).is_some_and(|frame| {
@@ -62,16 +65,16 @@ pub const GROUP: Group = Group {
         ("flags and fragment offset", fragments),
         ("every protocol", every_protocol),
         ("UDP length", udp_lengths),
-        ("ports", all_ports),
+        (PORTS, all_ports),
         ("message that reads or is enciphered", lawful_messages),
         ("check of a reading broken", broken_messages),
         ("every flags byte", every_flags_byte),
         ("message around 28 bytes", short_messages),
         ("longest message", longest_messages),
         ("short datagram of port 4500", short_datagrams),
-        ("marker of port 4500", markers),
-        ("AH length, length field and reserved field", ah_packets),
-        ("ESP length", esp_packets),
+        (MARKERS, markers),
+        (AH_LENGTHS, ah_packets),
+        (ESP_LENGTHS, esp_packets),
         ("lowest SPI", lowest_spis),
         ("full table", full_tables),
         ("window", windows),
@@ -83,6 +86,13 @@ pub const GROUP: Group = Group {
     ],
     ..PLAIN
 };
+
+const PORTS: &str = "ports";
+const MARKERS: &str = "marker of port 4500";
+const AH_LENGTHS: &str = "AH length, length field and reserved field";
+const ESP_LENGTHS: &str = "ESP length";
+/// The kinds in which every frame finds an empty table.
+const EMPTY_BEFORE: [&str; 4] = [PORTS, MARKERS, AH_LENGTHS, ESP_LENGTHS];
 
 /// A record as long as it was.
 fn add(follower: &mut Follower, frame: &Frame, answer: String) {
