@@ -85,7 +85,9 @@ module _ (exchange : ℕ) (book body : List ℕ) where
 
     none-means : {r : Choice} → Choosing exchange book body (setCount body) 0 r → NoneSuits exchange book body → r ≡ Refused 14
     none-means (fourteen f) e = refl
-    none-means (chose j i h l b t f g) e = absurd (e j i (omega arith) b (suits-says exchange i book (set j body) t))
+    none-means (chose j i h l b t f g) e =
+        let a : j < setCount body = omega arith in
+        absurd (e j i a b (suits-says exchange i book (set j body) (set-lawful exchange body reads j a .lawful) t))
 
     pub fourteen-none : chooseFrom exchange book body ≡ Refused 14 → NoneSuits exchange book body
     unfolding chooseFrom

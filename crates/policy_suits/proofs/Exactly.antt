@@ -1,17 +1,17 @@
--- Laws of lists in any order: where all that is wanted is there, as much as is wanted, and of types that are apart, exactly that is there.
-use Prim.Native.Nat.{ℕ, zero, suc, _<_}
+-- Laws of lists in any order: where all that is wanted is there, of kinds that are apart, and weighs as much as what is wanted, exactly that is
+-- there.
+use Prim.Native.Nat.{ℕ, zero, suc, _+_, _≤_, _<_}
 use mathlib.Core.Path.{_≡_, refl, sym, ap, _∙_}
 use mathlib.Core.Logic.{_⊎_, inl, inr, ⊎-elim}
-use mathlib.Core.List.{List, [], _∷_}
-use mathlib.Core.Bool.{true}
+use mathlib.Core.List.{List, [], _∷_, _++_}
+use mathlib.Core.Bool.{Bool, true, false, not, _&&_}
 use native.Mathlib.Omega.{arith}
 use lib.ListN.{length, getD}
 use lib.Dec.{eqb}
-use borrow.Author.Tests.{eqb-true, eq-eqb}
+use borrow.Author.Tests.{eqb-true, eq-eqb, not-true}
 use Rattle.wire_read.specs.Parts.{skip, parts}
-use Rattle.wire_read.proofs.Tests.{both, by-test}
-use Rattle.sa_coding.proofs.Laws.{wantedTimes, apart}
-use Rattle.policy_suits.specs.Suiting.{listed, Attribute, PutIn, in-front, behind, Exactly, nothing, one-more}
+use Rattle.wire_read.proofs.Tests.{clash, both, by-test}
+use Rattle.policy_suits.specs.Suiting.{listed, Offered, single, lifetime, PutIn, in-front, behind, Exactly, nothing, one-more}
 
 -- ---- lists of parts
 
@@ -34,25 +34,43 @@ module _ {A : Type 0} (tell : List ℕ → A) (rest : List ℕ → List ℕ) whe
 abbrev pub Within : {A : Type 0} → A → List A → Type 0
 Within {A} x whole = (rest : List A) × PutIn x rest whole
 
+-- what a list weighs
+unfoldable pub sum : {A : Type 0} (weight : A → ℕ) (l : List A) → ℕ
+sum weight [] = 0
+sum weight (x ∷ l) = weight x + sum weight l
+
 module _ {A : Type 0} where
-  put-length : {x : A} {rest whole : List A} → PutIn x rest whole → length whole ≡ suc (length rest)
-  put-length in-front = refl
-  put-length (behind p) = ap suc (put-length p)
+  put-sum : (weight : A → ℕ) {x : A} {rest whole : List A} → PutIn x rest whole → sum weight whole ≡ weight x + sum weight rest
+  unfolding sum
+  put-sum weight in-front = refl
+  put-sum weight (behind p) = omega (arith, put-sum weight p)
 
   pub within-more : (y : A) {x : A} {whole : List A} → Within x whole → Within x (y ∷ whole)
   within-more y (rest, p) = (y ∷ rest, behind p)
 
   -- what is in the whole is what was put in, or was there before
-  pub put-split : {x y : A} {rest whole : List A} → PutIn x rest whole → Within y whole → (x ≡ y) ⊎ Within y rest
+  put-split : {x y : A} {rest whole : List A} → PutIn x rest whole → Within y whole → (x ≡ y) ⊎ Within y rest
   put-split in-front (others, in-front) = inl refl
   put-split in-front (others, behind q) = inr (_, q)
   put-split (behind p) (others, in-front) = inr (_, in-front)
   put-split (behind {y = z} p) (others, behind q) = ⊎-elim inl (λ w. inr (within-more z w)) (put-split p (_, q))
 
+  pub within-split : {x y : A} {rest : List A} → Within y (x ∷ rest) → (x ≡ y) ⊎ Within y rest
+  within-split m = put-split in-front m
+
   put-keeps : {x y : A} {rest whole : List A} → PutIn x rest whole → Within y rest → Within y whole
   put-keeps {x} in-front w = within-more x w
   put-keeps (behind p) (others, in-front) = (_, in-front)
   put-keeps (behind {y = z} p) (others, behind q) = within-more z (put-keeps p (_, q))
+
+  pub exactly-sum : (weight : A → ℕ) {wanted found : List A} → Exactly wanted found → sum weight found ≡ sum weight wanted
+  unfolding sum
+  exactly-sum weight nothing = refl
+  exactly-sum weight (one-more {x} e p) = put-sum weight p ∙ ap (λ (n : ℕ). weight x + n) (exactly-sum weight e)
+
+  put-length : {x : A} {rest whole : List A} → PutIn x rest whole → length whole ≡ suc (length rest)
+  put-length in-front = refl
+  put-length (behind p) = ap suc (put-length p)
 
   pub exactly-length : {wanted found : List A} → Exactly wanted found → length found ≡ length wanted
   exactly-length nothing = refl
@@ -67,52 +85,92 @@ module _ {A : Type 0} where
   exactly-wanted nothing (others, p) = (others, p)
   exactly-wanted (one-more {x = y} e p) w = ⊎-elim (λ same. rw (← same) (_, in-front)) (λ r. within-more y (exactly-wanted e r)) (put-split p w)
 
--- ---- attributes of types that are apart
+  pub none-within : {x : A} → Within x [] → ⊥
+  none-within (rest, p) = absurd (omega (arith, put-length p))
 
-unfoldable pub typesOf : List Attribute → List ℕ
-typesOf [] = []
-typesOf (w ∷ ws) = w .0 ∷ typesOf ws
+  -- all that is wanted is there
+  abbrev pub AllWithin : List A → List A → Type 0
+  AllWithin wanted found = (a : A) → Within a wanted → Within a found
 
-pub none-within : {A : Type 0} {x : A} → Within x [] → ⊥
-none-within (rest, p) = absurd (omega (arith, put-length p))
+  pub no-more : {found : List A} → AllWithin [] found
+  no-more a m = absurd (none-within m)
 
-other-types : (ws : List Attribute) (a : Attribute) → Within a ws → wantedTimes (typesOf ws) (a .0) ≡ 0 → ⊥
-unfolding typesOf wantedTimes
-other-types [] a m z = none-within m
-other-types (w ∷ ws) a (others, in-front) z = absurd (omega (arith, rw (eq-eqb (a .0) (a .0) refl) at z))
-other-types (w ∷ ws) a (others, behind q) z = other-types ws a (_, q) (omega arith)
+  pub and-also : {w : A} {wanted found : List A} → Within w found → AllWithin wanted found → AllWithin (w ∷ wanted) found
+  and-also m f a (others, in-front) = m
+  and-also m f a (others, behind q) = f a (_, q)
 
-pub one-of-type : (ws : List Attribute) (a b : Attribute) → apart (typesOf ws) ≡ true → Within a ws → Within b ws → a .0 ≡ b .0 → a ≡ b
-unfolding typesOf apart
-one-of-type [] a b h m n e = absurd (none-within m)
-one-of-type (w ∷ ws) a b h (others, in-front) (others′, in-front) e = refl
-one-of-type (w ∷ ws) a b h (others, in-front) (others′, behind q) e =
-    absurd (other-types ws b (_, q) (ap (wantedTimes (typesOf ws)) (sym e) ∙ eqb-true _ _ (both (eqb (wantedTimes (typesOf ws) (a .0)) 0) _ h .0)))
-one-of-type (w ∷ ws) a b h (others, behind q) (others′, in-front) e =
-    absurd (other-types ws a (_, q) (ap (wantedTimes (typesOf ws)) e ∙ eqb-true _ _ (both (eqb (wantedTimes (typesOf ws) (b .0)) 0) _ h .0)))
-one-of-type (w ∷ ws) a b h (others, behind q) (others′, behind r) e =
-    one-of-type ws a b (both (eqb (wantedTimes (typesOf ws) (w .0)) 0) _ h .1) (_, q) (_, r) e
+  -- one list behind the other
+  pub all-both : (a : List A) {b found : List A} → AllWithin a found → AllWithin b found → AllWithin (a ++ b) found
+  all-both [] f g = g
+  all-both (x ∷ a) f g = and-also (f x (_, in-front)) (all-both a (λ y m. f y (within-more x m)) g)
 
--- all that is wanted is there
-abbrev pub AllWithin : List Attribute → List Attribute → Type 0
-AllWithin wanted found = (a : Attribute) → Within a wanted → Within a found
+  pub within-behind : (a : List A) {b : List A} {x : A} → Within x b → Within x (a ++ b)
+  within-behind [] m = m
+  within-behind (y ∷ a) m = within-more y (within-behind a m)
 
-pub no-more : {found : List Attribute} → AllWithin [] found
-no-more a m = absurd (none-within m)
+  pub sum-both : (weight : A → ℕ) (a b : List A) → sum weight (a ++ b) ≡ sum weight a + sum weight b
+  unfolding sum
+  sum-both weight [] b = omega arith
+  sum-both weight (x ∷ a) b = omega (arith, sum-both weight a b)
 
-pub and-also : {w : Attribute} {wanted found : List Attribute} → Within w found → AllWithin wanted found → AllWithin (w ∷ wanted) found
-and-also m f a (others, in-front) = m
-and-also m f a (others, behind q) = f a (_, q)
+-- ---- kinds: attributes of one type, lifetimes of one unit
 
--- and as much as is wanted: exactly that
-pub gathered : (wanted found : List Attribute) → apart (typesOf wanted) ≡ true → AllWithin wanted found → length found ≡ length wanted → Exactly wanted found
-unfolding typesOf apart
-gathered [] [] h f l = nothing
-gathered [] (x ∷ found) h f l = absurd (omega arith)
-gathered (w ∷ wanted) found h f l =
-    let two = both (eqb (wantedTimes (typesOf wanted) (w .0)) 0) (apart (typesOf wanted)) h in
-    let m = f w (_, in-front) in
-    let rest : AllWithin wanted (m .0) = λ a n. ⊎-elim
-    (λ same. absurd (other-types wanted a n (ap (λ (x : Attribute). wantedTimes (typesOf wanted) (x .0)) (sym same) ∙ eqb-true _ _ (two .0))))
-    (λ r. r) (put-split (m .1) (f a (within-more w n))) in
-    one-more (gathered wanted (m .0) (two .1) rest (omega (arith, put-length (m .1)))) (m .1)
+unfoldable pub sameKind : (a b : Offered) → Bool
+sameKind (single t v) (single u w) = eqb t u
+sameKind (single t v) (lifetime u w) = false
+sameKind (lifetime t v) (single u w) = false
+sameKind (lifetime t v) (lifetime u w) = eqb t u
+
+unfoldable pub noneOf : (a : Offered) (l : List Offered) → Bool
+noneOf a [] = true
+noneOf a (b ∷ l) = not (sameKind a b) && noneOf a l
+
+-- no two of them are of one kind
+unfoldable pub apart : (l : List Offered) → Bool
+apart [] = true
+apart (a ∷ l) = noneOf a l && apart l
+
+eqb-back : (t u : ℕ) → eqb t u ≡ true → eqb u t ≡ true
+eqb-back t u e = eq-eqb u t (sym (eqb-true t u e))
+
+kind-back : (a b : Offered) → sameKind a b ≡ true → sameKind b a ≡ true
+unfolding sameKind
+kind-back (single t v) (single u w) e = eqb-back t u e
+kind-back (single t v) (lifetime u w) e = clash e
+kind-back (lifetime t v) (single u w) e = clash e
+kind-back (lifetime t v) (lifetime u w) e = eqb-back t u e
+
+pub kind-own : (a : Offered) → sameKind a a ≡ true
+unfolding sameKind
+kind-own (single t v) = eq-eqb t t refl
+kind-own (lifetime t v) = eq-eqb t t refl
+
+pub other-kinds : (a b : Offered) (l : List Offered) → noneOf a l ≡ true → Within b l → sameKind a b ≡ true → ⊥
+unfolding noneOf
+other-kinds a b [] h m e = none-within m
+other-kinds a b (c ∷ l) h (others, in-front) e = clash (sym (not-true _ (both (not (sameKind a b)) (noneOf a l) h .0)) ∙ e)
+other-kinds a b (c ∷ l) h (others, behind q) e = other-kinds a b l (both (not (sameKind a c)) (noneOf a l) h .1) (_, q) e
+
+pub one-of-kind : (l : List Offered) (a b : Offered) → apart l ≡ true → Within a l → Within b l → sameKind a b ≡ true → a ≡ b
+unfolding apart
+one-of-kind [] a b h m n e = absurd (none-within m)
+one-of-kind (c ∷ l) a b h (others, in-front) (others′, in-front) e = refl
+one-of-kind (c ∷ l) a b h (others, in-front) (others′, behind q) e = absurd (other-kinds a b l (both (noneOf a l) (apart l) h .0) (_, q) e)
+one-of-kind (c ∷ l) a b h (others, behind q) (others′, in-front) e =
+    absurd (other-kinds b a l (both (noneOf b l) (apart l) h .0) (_, q) (kind-back a b e))
+one-of-kind (c ∷ l) a b h (others, behind q) (others′, behind r) e = one-of-kind l a b (both (noneOf c l) (apart l) h .1) (_, q) (_, r) e
+
+-- all that is wanted is there, and no more by weight: exactly that
+module _ (weight : Offered → ℕ) (some : (a : Offered) → 1 ≤ weight a) where
+  pub gathered : (wanted found : List Offered) → apart wanted ≡ true → AllWithin wanted found → sum weight found ≡ sum weight wanted →
+      Exactly wanted found
+  unfolding apart sum
+  gathered [] [] h f e = nothing
+  gathered [] (x ∷ found) h f e = absurd (omega (arith, some x))
+  gathered (w ∷ wanted) found h f e =
+      let two = both (noneOf w wanted) (apart wanted) h in
+      let m = f w (_, in-front) in
+      let rest : AllWithin wanted (m .0) = λ a n. ⊎-elim
+      (λ same. absurd (other-kinds w a wanted (two .0) n (rw (← same) (kind-own w))))
+      (λ r. r) (put-split (m .1) (f a (within-more w n))) in
+      one-more (gathered wanted (m .0) (two .1) rest (omega (arith, put-sum weight (m .1)))) (m .1)

@@ -3,5 +3,7 @@ pub mod SuitLaws
 pub mod SuitingLaws
 mod Exactly
 mod AttributeList
+mod Offers
+mod TransformLaws
 pub mod Found
 mod SuitWays

@@ -2,102 +2,24 @@
 use Prim.Native.Nat.{ℕ, _-_, _≤_, _<_}
 use mathlib.Core.Path.{_≡_, refl, ap, _∙_}
 use mathlib.Core.Logic.{_⊎_, inl, inr}
-use mathlib.Core.List.{List, [], _∷_}
+use mathlib.Core.List.{List}
 use mathlib.Core.Bool.{Bool, true, false, _||_, _&&_}
 use native.Mathlib.Omega.{arith}
-use lib.ListN.{length, getD, length-drop}
-use lib.Dec.{leb, eqb}
+use lib.ListN.{length, getD}
+use lib.Dec.{eqb}
 use borrow.Author.Tests.{eqb-true, leb-true, not-false}
 use Rattle.wire_read.specs.Tests.{if_then_else_}
 use Rattle.wire_read.proofs.Tests.{both, by-test}
-use Rattle.sa_attribute.specs.Attributes.{attribute, attributeCount}
-use Rattle.sa_coding.specs.Coding.{mustBeFixed, isDuration}
-use Rattle.sa_coding.proofs.Laws.{wantedTimes, apart, allShort, allThere, wanted-length}
 use Rattle.sa_proposals.specs.Proposals.{protocolWrong}
 use Rattle.sa_transforms.proofs.Laws.{LawfulTransform}
 use Rattle.sa_proposals.proofs.Laws.{Item}
-use Rattle.sa_fields.specs.Fields.{protocol, transformCount, transformId, attributesOf}
+use Rattle.sa_fields.specs.Fields.{protocol, transformCount}
 use Rattle.sa_items.specs.Items.{proposal, proposalCount, transform}
 use Rattle.sa_items.proofs.Laws.{transform-lawful}
 use Rattle.policy_lines.specs.Lines.{quickProtocols}
+use Rattle.policy_suits.specs.Suits.{suitsLine, transformSuits, lowest, protocolsAlone, protocolsBoth, protocolsSuit}
 use Rattle.policy_suits.proofs.Laws.{First, none, here, lowest-is, Passes, transform-low}
-use Rattle.policy_suits.specs.Suits.{present, valueIs, lifeWithin, nothingSurplus, mainValues, mainSuits, quickId, quickAuthentication, quickSuits, suitsLine, transformSuits, lowest, protocolsAlone, protocolsBoth, protocolsSuit}
-
--- ---- a transform that suits is short
-
-value-there : (type wanted : ℕ) (attributes : List ℕ) → valueIs type wanted attributes ≡ true → leb 4 (length (attribute type attributes)) ≡ true
-unfolding valueIs present
-value-there type wanted attributes h = both (present type attributes) _ h .0
-
-life-there : (type longest : ℕ) (attributes : List ℕ) → lifeWithin type longest attributes ≡ true → leb 4 (length (attribute type attributes)) ≡ true
-unfolding lifeWithin present
-life-there type longest attributes h = both (present type attributes) _ (both _ _ h .0) .0
-
-module _ (t : List ℕ) where
-  abbrev attributes : List ℕ
-  attributes = attributesOf t
-
-  main-there : mainValues attributes ≡ true → (seconds : ℕ) → lifeWithin 12 seconds attributes ≡ true →
-      allThere 16 (1 ∷ 2 ∷ 3 ∷ 20 ∷ 11 ∷ 12 ∷ []) attributes ≡ true
-  unfolding mainValues allThere attribute
-  main-there h seconds life =
-      let a = both _ (valueIs 11 1 attributes) h in
-      let b = both _ (valueIs 20 2 attributes) (a .0) in
-      let c = both _ (valueIs 3 10 attributes) (b .0) in
-      let d = both (valueIs 1 129 attributes) (valueIs 2 20 attributes) (c .0) in
-      rw (
-        value-there 1 129 attributes (d .0),
-        value-there 2 20 attributes (d .1),
-        value-there 3 10 attributes (c .1),
-        value-there 20 2 attributes (b .1),
-        value-there 11 1 attributes (a .1),
-        life-there 12 seconds attributes life,
-      )
-
-  count-is : (wanted : ℕ) → nothingSurplus wanted attributes ≡ true → attributeCount attributes ≡ wanted
-  unfolding nothingSurplus
-  count-is wanted h = eqb-true (attributeCount attributes) wanted h
-
-  main-short : (seconds : ℕ) → LawfulTransform 2 t → mainSuits seconds t ≡ true → length t ≤ 56
-  unfolding mainSuits attributesOf apart allShort wantedTimes mustBeFixed isDuration
-  main-short seconds l h =
-      let a = both _ (nothingSurplus 6 attributes) h in
-      let b = both _ (lifeWithin 12 seconds attributes) (a .0) in
-      let c = both (eqb (transformId t) 1) (mainValues attributes) (b .0) in
-      omega (
-        arith,
-        length-drop 8 t,
-        wanted-length 2 (1 ∷ 2 ∷ 3 ∷ 20 ∷ 11 ∷ 12 ∷ []) refl refl attributes (l .attributes) (main-there (c .1) seconds (b .1)) (count-is 6 (a .1)),
-      )
-
-  -- with authentication, and without it where AH goes along
-  quick-there : (mode seconds : ℕ) → valueIs 4 mode attributes ≡ true → valueIs 1 1 attributes ≡ true → lifeWithin 2 seconds attributes ≡ true →
-      allThere 16 (4 ∷ 1 ∷ 2 ∷ []) attributes ≡ true
-  unfolding allThere attribute
-  quick-there mode seconds a b c = rw (value-there 4 mode attributes a, value-there 1 1 attributes b, life-there 2 seconds attributes c)
-
-  with-authentication : allThere 16 (4 ∷ 1 ∷ 2 ∷ []) attributes ≡ true → valueIs 5 20 attributes ≡ true → allThere 16 (5 ∷ 4 ∷ 1 ∷ 2 ∷ []) attributes ≡ true
-  unfolding allThere attribute
-  with-authentication a b = rw (value-there 5 20 attributes b) a
-
-  quick-attributes : (protocols wanted : ℕ) → LawfulTransform 32 t → allThere 16 (4 ∷ 1 ∷ 2 ∷ []) attributes ≡ true →
-      quickAuthentication protocols wanted attributes ≡ true → length attributes ≤ 32
-  unfolding quickAuthentication attributesOf apart allShort wantedTimes mustBeFixed isDuration
-  quick-attributes protocols wanted l there h =
-      by-test (eqb protocols 2 && eqb wanted 3)
-      (λ e. omega (arith, wanted-length 32 (4 ∷ 1 ∷ 2 ∷ []) refl refl attributes (l .attributes) there (count-is 3 (rw e at h))))
-      (λ e.
-      let two = both (valueIs 5 20 attributes) (nothingSurplus 4 attributes) (rw e at h) in
-      omega (arith, wanted-length 32 (5 ∷ 4 ∷ 1 ∷ 2 ∷ []) refl refl attributes (l .attributes) (with-authentication there (two .0)) (count-is 4 (two .1))))
-
-  quick-short : (protocols mode seconds wanted : ℕ) → LawfulTransform 32 t → quickSuits protocols mode seconds wanted t ≡ true → length t ≤ 56
-  unfolding quickSuits attributesOf
-  quick-short protocols mode seconds wanted l h =
-      let a = both _ (quickAuthentication protocols wanted attributes) h in
-      let b = both _ (lifeWithin 2 seconds attributes) (a .0) in
-      let c = both _ (valueIs 1 1 attributes) (b .0) in
-      let d = both (eqb (transformId t) (quickId wanted)) (valueIs 4 mode attributes) (c .0) in
-      omega (arith, length-drop 8 t, quick-attributes protocols wanted l (quick-there mode seconds (d .1) (c .1) (b .1)) (a .1))
+use Rattle.policy_suits.proofs.TransformLaws.{main-short, quick-short}
 
 -- the exchanges and their protocols
 pub data Known : ℕ → ℕ → Type 0 where
@@ -118,9 +40,9 @@ known-of exchange wanted h =
 suits-short : {exchange wanted : ℕ} → Known exchange wanted → (i : ℕ) (book p : List ℕ) (k : ℕ) → LawfulTransform exchange (transform k p) →
     transformSuits exchange i book p k ≡ true → length (transform k p) ≤ 56
 unfolding transformSuits suitsLine
-suits-short isakmp i book p k l h = main-short (transform k p) _ l h
-suits-short ah-of i book p k l h = quick-short (transform k p) _ _ _ _ l h
-suits-short esp-of i book p k l h = quick-short (transform k p) _ _ _ _ l h
+suits-short isakmp i book p k l h = main-short (transform k p) l _ h
+suits-short ah-of i book p k l h = quick-short (transform k p) l _ _ _ _ h
+suits-short esp-of i book p k l h = quick-short (transform k p) l _ _ _ _ h
 
 -- "a main transform suits .. A quick one": of a proposal that reads, at most 56 bytes
 pub suiting-short : (exchange i : ℕ) (book p : List ℕ) (k : ℕ) → Item exchange p → k < transformCount p → transformSuits exchange i book p k ≡ true →

@@ -1,19 +1,19 @@
 -- A law for each way out of the functions on what suits.
-use Prim.Native.Nat.{ℕ, zero, suc, _+_, _-_}
+use Prim.Native.Nat.{ℕ, zero, suc, _+_, _-_, _≤_, _<_}
 use mathlib.Core.Path.{_≡_, refl, sym, _∙_}
-use mathlib.Core.List.{List}
+use mathlib.Core.List.{List, []}
 use mathlib.Core.Bool.{Bool, true, false, not, _&&_, _||_, and-false}
 use native.Mathlib.Omega.{arith}
 use native.Mathlib.Numerals.{add-one}
 use lib.ListN.{length, take, drop}
-use lib.Dec.{eqb, leb}
-use borrow.Author.Tests.{eq-eqb, ne-eqb, le-leb, not-true, not-false}
+use lib.Dec.{ltb, leb, eqb}
+use borrow.Author.Tests.{eq-eqb, ne-eqb, lt-ltb, le-ltb, le-leb, not-true, not-false}
 use Rattle.wire_read.specs.Tests.{if_then_else_}
 use Rattle.wire_read.proofs.Tests.{by-test}
 use Rattle.wire_read.proofs.Parts.{skip-next}
 use Rattle.wire_read.specs.Wire.{numberAt}
 use Rattle.sa_proposals.specs.Proposals.{transformBytes}
-use Rattle.sa_attribute.specs.Attributes.{attribute, value}
+use Rattle.sa_attribute.specs.Attributes.{attributeType, attributeSize, afterAttribute, attribute, attributeCount, value}
 use Rattle.sa_fields.specs.Fields.{transformNumber, transformId, transformCount, attributesOf, protocol}
 use Rattle.sa_fields.specs.declared.TransformNumber.{TransformNumber}
 use Rattle.wire_read.specs.Parts.{skip}
@@ -23,30 +23,84 @@ use Rattle.policy_lines.specs.declared.LineNumber.{LineNumber}
 use Rattle.policy_suits.specs.declared.SuitingTransform.{SuitingTransform}
 use Rattle.policy_suits.specs.declared.SuitingTransform.the-variants.{None, Lowest}
 use Rattle.policy_suits.proofs.Found.{none-found, lowest-found}
-use Rattle.policy_suits.specs.Suits.{present, valueIs, mainValues, nothingSurplus, quickId, lifeWithin, quickAuthentication, mainSuits, quickSuits, suitsQuickLine, suitsLine, transformSuits, lowestFrom, lowest, hasTransform, lowestTransform, lowestIn, protocolsAlone, protocolsBoth, protocolsSuit, setSuits}
+use Rattle.policy_suits.specs.Suits.{present, valueIs, findDuration, secondsOf, kilobytesOf, secondsWithin, hasKilobytes, kilobytesSome, nothingSurplus, mainValues, quickId, quickAuthentication, mainSuits, quickSuits, suitsQuickLine, suitsLine, transformSuits, lowestFrom, lowest, hasTransform, lowestTransform, lowestIn, protocolsAlone, protocolsBoth, protocolsSuit, setSuits}
 
-module _ (attributetype : ℕ) (attributes found : List ℕ) (v : ℕ) (ef : found ≡ attribute attributetype attributes) (ev : v ≡ value found) where
-  pub value-found : (wanted : ℕ) → (leb 4 (length found) && eqb v wanted) ≡ valueIs attributetype wanted attributes
-  unfolding valueIs present
-  value-found wanted = rw (← ef, ← ev)
+pub value-found : (attributetype wanted : ℕ) (attributes found : List ℕ) (v : ℕ) → found ≡ attribute attributetype attributes → v ≡ value found →
+    (leb 4 (length found) && eqb v wanted) ≡ valueIs attributetype wanted attributes
+unfolding valueIs present
+value-found attributetype wanted attributes found v ef ev = rw (← ef, ← ev)
 
-  pub life-found : (longest : ℕ) → (leb 4 (length found) && leb 1 v && leb v longest) ≡ lifeWithin attributetype longest attributes
-  unfolding lifeWithin present
-  life-found longest = rw (← ef, ← ev)
+-- ---- lifetimes
 
-pub values-found : (attributes : List ℕ) (a b c d e : Bool) → a ≡ valueIs 1 129 attributes → b ≡ valueIs 2 20 attributes → c ≡ valueIs 3 10 attributes →
-    d ≡ valueIs 20 2 attributes → e ≡ valueIs 11 1 attributes → (a && b && c && d && e) ≡ mainValues attributes
+duration-step : (left lifetype unit : ℕ) (s : List ℕ) → (left ≡ 0 → ⊥) →
+    findDuration left lifetype unit s
+    ≡ (if ltb (length s) 4 then []
+    else if eqb (attributeType s) lifetype && eqb (value s) unit then take (attributeSize (afterAttribute s)) (afterAttribute s)
+    else findDuration (left - 1) lifetype unit (afterAttribute s))
+unfolding findDuration
+duration-step zero lifetype unit s h = absurd (h refl)
+duration-step (suc left) lifetype unit s h = let i : suc left - 1 ≡ left = omega arith in rw i
+
+module _ (left lifetype unit : ℕ) (s r : List ℕ) where
+  pub duration-out : left ≡ 0 → r ≡ take 0 s → r ≡ findDuration left lifetype unit s
+  unfolding findDuration
+  duration-out z e = rw z e
+
+  module _ (may : left ≡ 0 → ⊥) where
+    pub duration-end : length s < 4 → r ≡ take 0 s → r ≡ findDuration left lifetype unit s
+    duration-end h e = rw (duration-step left lifetype unit s may, lt-ltb (length s) 4 h) e
+
+    module _ (long : 4 ≤ length s) (n : ℕ) (en : n ≡ attributeSize s) (behind : List ℕ) (eb : behind ≡ drop n s) (t v : ℕ) (et : t ≡ attributeType s)
+        (ev : v ≡ value s) where
+      pub duration-here : (eqb t lifetype && eqb v unit) ≡ true → (m : ℕ) → m ≡ attributeSize behind → r ≡ take m behind →
+          r ≡ findDuration left lifetype unit s
+      unfolding afterAttribute
+      duration-here h m em e =
+          rw (duration-step left lifetype unit s may, le-ltb (length s) 4 long, ← en, ← eb, ← et, ← ev, h, ← em) e
+
+      pub duration-on : (eqb t lifetype && eqb v unit) ≡ false → r ≡ findDuration (left - 1) lifetype unit behind → r ≡ findDuration left lifetype unit s
+      unfolding afterAttribute
+      duration-on h e = rw (duration-step left lifetype unit s may, le-ltb (length s) 4 long, ← en, ← eb, ← et, ← ev, h) e
+
+pub seconds-found : (lifetype longest : ℕ) (attributes found : List ℕ) (v : ℕ) → found ≡ secondsOf lifetype attributes → v ≡ value found →
+    (leb 4 (length found) && leb 1 v && leb v longest) ≡ secondsWithin lifetype longest attributes
+unfolding secondsWithin
+seconds-found lifetype longest attributes found v ef ev = rw (← ef, ← ev)
+
+module _ (lifetype : ℕ) (attributes found : List ℕ) (ef : found ≡ kilobytesOf lifetype attributes) where
+  pub kilobytes-there : leb 4 (length found) ≡ hasKilobytes lifetype attributes
+  unfolding hasKilobytes
+  kilobytes-there = rw (← ef)
+
+  pub kilobytes-found : (v : ℕ) → v ≡ value found → (not (leb 4 (length found)) || leb 1 v) ≡ kilobytesSome lifetype attributes
+  unfolding kilobytesSome hasKilobytes
+  kilobytes-found v ev = rw (← ef, ← ev)
+
+module _ (wanted lifetype : ℕ) (attributes : List ℕ) (count : ℕ) (ec : count ≡ attributeCount attributes) (has : Bool)
+    (eh : has ≡ hasKilobytes lifetype attributes) where
+  pub surplus-kilobytes : has ≡ true → eqb count (wanted + 2) ≡ nothingSurplus wanted lifetype attributes
+  unfolding nothingSurplus
+  surplus-kilobytes h = rw (← ec, ← eh, h)
+
+  pub surplus-seconds : has ≡ false → eqb count wanted ≡ nothingSurplus wanted lifetype attributes
+  unfolding nothingSurplus
+  surplus-seconds h = rw (← ec, ← eh, h)
+
+-- ---- a transform
+
+pub values-found : (attributes : List ℕ) (a b c d : Bool) → a ≡ valueIs 1 129 attributes → b ≡ valueIs 2 20 attributes → c ≡ valueIs 3 10 attributes →
+    d ≡ valueIs 20 2 attributes → (a && b && c && d) ≡ mainValues attributes
 unfolding mainValues
-values-found attributes a b c d e ea eb ec ed ee = rw (← ea, ← eb, ← ec, ← ed, ← ee)
+values-found attributes a b c d ea eb ec ed = rw (← ea, ← eb, ← ec, ← ed)
 
-pub main-found : (seconds id : ℕ) (t attributes : List ℕ) (values life few : Bool) → attributes ≡ attributesOf t → id ≡ transformId t →
-    values ≡ mainValues attributes → life ≡ lifeWithin 12 seconds attributes → few ≡ nothingSurplus 6 attributes →
-    (eqb id 1 && values && life && few) ≡ mainSuits seconds t
+pub main-found : (seconds id : ℕ) (t attributes : List ℕ) (values life some few : Bool) → attributes ≡ attributesOf t → id ≡ transformId t →
+    values ≡ mainValues attributes → life ≡ secondsWithin 11 seconds attributes → some ≡ kilobytesSome 11 attributes → few ≡ nothingSurplus 6 11 attributes →
+    (eqb id 1 && values && life && some && few) ≡ mainSuits seconds t
 unfolding mainSuits
-main-found seconds id t attributes values life few ea ei ev el ef = rw (← ea, ← ei, ← ev, ← el, ← ef)
+main-found seconds id t attributes values life some few ea ei ev el es ef = rw (← ea, ← ei, ← ev, ← el, ← es, ← ef)
 
 pub authentication-both : (protocols protocol : ℕ) (attributes : List ℕ) (a b : Bool) → (eqb protocols 2 && eqb protocol 3) ≡ false →
-    a ≡ valueIs 5 20 attributes → b ≡ nothingSurplus 4 attributes → (a && b) ≡ quickAuthentication protocols protocol attributes
+    a ≡ valueIs 5 20 attributes → b ≡ nothingSurplus 4 1 attributes → (a && b) ≡ quickAuthentication protocols protocol attributes
 unfolding quickAuthentication
 authentication-both protocols protocol attributes a b h ea eb = rw (h, ← ea, ← eb)
 
@@ -61,7 +115,7 @@ module _ (line : LineNumber) (book : List ℕ) (protocol : ℕ) (t : List ℕ) w
     quick-other h = rw (← ei, ← ew, ne-eqb id wanted h)
 
     module _ (same : id ≡ wanted) (i : ℕ) (at-place : i ≡ place line) (seconds : ℕ) (es : seconds ≡ quickSeconds i book) (l : Bool)
-        (el : l ≡ lifeWithin 2 seconds attributes) where
+        (el : l ≡ secondsWithin 1 seconds attributes) where
       pub quick-life : not l ≡ true → false ≡ suits
       unfolding quickSuits
       quick-life h = rw (← ea, ← at-place, ← es, ← el, not-true l h, and-false)
@@ -71,10 +125,10 @@ module _ (line : LineNumber) (book : List ℕ) (protocol : ℕ) (t : List ℕ) w
         unfolding quickSuits
         quick-mode h = rw (← ei, ← ew, eq-eqb id wanted same, ← ea, ← at-place, ← em, ← ev, not-true a h)
 
-        module _ (in-mode : not a ≡ false) (b : Bool) (eb : b ≡ valueIs 1 1 attributes) where
-          pub quick-unit : not b ≡ true → false ≡ suits
+        module _ (in-mode : not a ≡ false) (b : Bool) (eb : b ≡ kilobytesSome 1 attributes) where
+          pub quick-kilobytes : not b ≡ true → false ≡ suits
           unfolding quickSuits
-          quick-unit h = rw (← ei, ← ew, eq-eqb id wanted same, ← ea, ← at-place, ← em, ← ev, not-false a in-mode, ← eb, not-true b h)
+          quick-kilobytes h = rw (← ea, ← eb, not-true b h, and-false)
 
           pub quick-rest : not b ≡ false → (protocols : ℕ) → protocols ≡ quickProtocols i book → (r : Bool) →
               r ≡ quickAuthentication protocols protocol attributes → r ≡ suits

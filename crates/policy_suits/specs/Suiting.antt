@@ -1,9 +1,9 @@
--- What "suits" says, document 01, "Policy book and choice": over the list of a transform's attributes and the list of a set's protocols, with
--- no search in it. Promises speak in these words. Suits.antt says the same as the code looks for it; proofs/SuitingLaws.antt shows that the
--- two agree.
+-- What "suits" says, document 01, "Policy book and choice", with document 02, "Two lifetimes in one offer": over the list of what a transform
+-- offers and the list of a set's protocols, with no search in it. Promises speak in these words. Suits.antt says the same as the code looks for
+-- it; proofs/SuitingLaws.antt shows that the two agree.
 use Prim.Native.Nat.{ℕ, zero, suc, _≤_, _<_}
 use mathlib.Core.Path.{_≡_}
-use mathlib.Core.List.{List, [], _∷_}
+use mathlib.Core.List.{List, [], _∷_, _++_, map}
 use mathlib.Core.Bool.{_&&_}
 use lib.ListN.{length}
 use lib.Dec.{eqb}
@@ -11,6 +11,8 @@ use Rattle.wire_read.specs.Wire.{Bytes}
 use Rattle.wire_read.specs.Tests.{if_then_else_}
 use Rattle.policy_lines.specs.Lines.{mainSeconds, quickProtocols, quickMode, quickSeconds}
 use Rattle.sa_attribute.specs.Attributes.{attributeType, afterAttribute, value}
+use Rattle.sa_coding.specs.Coding.{isLifeType}
+use Rattle.sa_coding.specs.Wholes.{wholes}
 use Rattle.sa_fields.specs.Fields.{protocol, transformCount, transformNumber, transformId, attributesOf}
 use Rattle.sa_items.specs.Items.{firstItem, afterItem, proposal, proposalCount, transform}
 
@@ -21,13 +23,19 @@ unfoldable pub listed : {A : Type 0} (tell : Bytes → A) (rest : Bytes → Byte
 listed tell rest zero s = []
 listed tell rest (suc left) s = if eqb (length s) 0 then [] else tell s ∷ listed tell rest left (rest s)
 
--- an attribute: its type, and its value
-abbrev pub Attribute : Type 0
-Attribute = ℕ × ℕ
+-- what a transform offers: an attribute by its type and value, or a lifetime by the life type's value and the duration's, "pairs as wholes"
+pub data Offered : Type 0 where
+  single : (attributetype value : ℕ) → Offered
+  lifetime : (unit duration : ℕ) → Offered
 
--- the attributes of a transform, one after the other; of a transform that reads they are at most 16
-unfoldable pub attributeList : (attributes : Bytes) → List Attribute
-attributeList attributes = listed (λ s. (attributeType s, value s)) afterAttribute 16 attributes
+unfoldable pub told : (exchange : ℕ) (w : Bytes) → Offered
+told exchange w =
+    if isLifeType exchange (attributeType w) then lifetime (value w) (value (afterAttribute w))
+    else single (attributeType w) (value w)
+
+-- what a transform offers, one after the other
+unfoldable pub offeredList : (exchange : ℕ) (attributes : Bytes) → List Offered
+offeredList exchange attributes = map (told exchange) (wholes exchange attributes)
 
 -- the protocols of a set, proposal by proposal; of an SA payload that reads they are at most 16
 unfoldable pub protocolList : (set : Bytes) → List ℕ
@@ -47,28 +55,43 @@ pub data Exactly {A : Type 0} : (wanted found : List A) → Type 0 where
 
 -- ---- what suits
 
+-- life type 1 is seconds, 2 is kilobytes
+abbrev pub seconds : (duration : ℕ) → Offered
+seconds duration = lifetime 1 duration
+
+abbrev pub kilobytes : (duration : ℕ) → Offered
+kilobytes duration = lifetime 2 duration
+
 -- "1=129, 2=20, 3=10, 20=2, 11=1 and 12"
-abbrev pub mainAttributes : (life : ℕ) → List Attribute
-mainAttributes life = (1, 129) ∷ (2, 20) ∷ (3, 10) ∷ (20, 2) ∷ (11, 1) ∷ (12, life) ∷ []
+abbrev pub mainAttributes : (life : ℕ) → List Offered
+mainAttributes life = single 1 129 ∷ single 2 20 ∷ single 3 10 ∷ single 20 2 ∷ seconds life ∷ []
 
 -- "4=mode, 1=1, 2 .., and 5=20, but no 5 in an ESP that goes with AH"; protocols as the line says it: "1 ESP alone, 2 AH with ESP"
-abbrev pub quickAttributes : (protocols mode protocol life : ℕ) → List Attribute
-quickAttributes protocols mode protocol life = (4, mode) ∷ (1, 1) ∷ (2, life) ∷ (if eqb protocols 2 && eqb protocol 3 then [] else (5, 20) ∷ [])
+abbrev pub quickAttributes : (protocols mode protocol life : ℕ) → List Offered
+quickAttributes protocols mode protocol life =
+    single 4 mode ∷ seconds life ∷ (if eqb protocols 2 && eqb protocol 3 then [] else single 5 20 ∷ [])
 
--- its ID is this, and "its attributes are exactly" the wanted ones for a life "from 1 to the line's seconds"
-pub record Matches (id seconds : ℕ) (wanted : (life : ℕ) → List Attribute) (t : Bytes) : Type 0 where
+-- "and, if present, kilobytes of at least 1"
+pub data IfPresent : (traffic : List Offered) → Type 0 where
+  absent : IfPresent []
+  at-least-one : {duration : ℕ} → 1 ≤ duration → IfPresent (kilobytes duration ∷ [])
+
+-- its ID is this, and "its attributes are exactly" the wanted ones for a life "from 1 to the line's seconds", "and, if present, kilobytes"
+pub record Matches (exchange id longest : ℕ) (wanted : (life : ℕ) → List Offered) (t : Bytes) : Type 0 where
   pub same-id : transformId t ≡ id
   pub life : ℕ
   pub from-one : 1 ≤ life
-  pub to-seconds : life ≤ seconds
-  pub attributes : Exactly (wanted life) (attributeList (attributesOf t))
+  pub to-seconds : life ≤ longest
+  pub traffic : List Offered
+  pub if-present : IfPresent traffic
+  pub attributes : Exactly (traffic ++ wanted life) (offeredList exchange (attributesOf t))
 
 -- "A main transform suits if its ID is 1 and its attributes are exactly .. A quick one: ID 20 (AH) or 129 (ESP); attributes exactly ..":
 -- a transform of a proposal of this protocol, and line i of the exchange's, counted from 0
 pub data TransformSuits (exchange i : ℕ) (book : Bytes) (protocol : ℕ) (t : Bytes) : Type 0 where
-  main : exchange ≡ 2 → Matches 1 (mainSeconds i book) mainAttributes t → TransformSuits exchange i book protocol t
+  main : exchange ≡ 2 → Matches 2 1 (mainSeconds i book) mainAttributes t → TransformSuits exchange i book protocol t
   quick : (exchange ≡ 2 → ⊥) →
-      Matches (if eqb protocol 2 then 20 else 129) (quickSeconds i book) (quickAttributes (quickProtocols i book) (quickMode i book) protocol) t →
+      Matches 32 (if eqb protocol 2 then 20 else 129) (quickSeconds i book) (quickAttributes (quickProtocols i book) (quickMode i book) protocol) t →
       TransformSuits exchange i book protocol t
 
 -- one of a proposal's transforms suits

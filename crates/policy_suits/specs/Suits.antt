@@ -1,54 +1,80 @@
--- Which transform, and which set, suits which line, document 01, "Policy book and choice".
+-- Which transform, and which set, suits which line, document 01, "Policy book and choice", with document 02, "Two lifetimes in one offer".
 use Prim.Native.Nat.{ℕ, zero, suc, _+_, _-_}
-use mathlib.Core.Bool.{Bool, _||_, _&&_}
-use lib.ListN.{length}
-use lib.Dec.{leb, eqb}
+use mathlib.Core.List.{[]}
+use mathlib.Core.Bool.{Bool, not, _||_, _&&_}
+use lib.ListN.{length, take}
+use lib.Dec.{ltb, leb, eqb}
 use Rattle.wire_read.specs.Wire.{Bytes}
 use Rattle.wire_read.specs.Tests.{if_then_else_}
 use Rattle.policy_lines.specs.Lines.{mainSeconds, quickProtocols, quickMode, quickSeconds}
-use Rattle.sa_attribute.specs.Attributes.{attribute, attributeCount, value}
+use Rattle.sa_attribute.specs.Attributes.{attributeType, attributeSize, afterAttribute, attribute, attributeCount, value}
 use Rattle.sa_fields.specs.Fields.{protocol, transformCount, transformNumber, transformId, attributesOf}
 use Rattle.sa_items.specs.Items.{firstItem, afterItem, proposal, proposalCount, transform}
 use Rattle.policy_suits.specs.declared.SuitingTransform.{SuitingTransform}
 use Rattle.policy_suits.specs.declared.SuitingTransform.the-variants.{None, Lowest}
 
--- an attribute is there, is there with this value, or with a value from 1 to the longest
+-- an attribute is there, or is there with this value
 unfoldable pub present : (attributetype : ℕ) (attributes : Bytes) → Bool
 present attributetype attributes = leb 4 (length (attribute attributetype attributes))
 
 unfoldable pub valueIs : (attributetype wanted : ℕ) (attributes : Bytes) → Bool
 valueIs attributetype wanted attributes = present attributetype attributes && eqb (value (attribute attributetype attributes)) wanted
 
-unfoldable pub lifeWithin : (attributetype longest : ℕ) (attributes : Bytes) → Bool
-lifeWithin attributetype longest attributes =
-    present attributetype attributes && leb 1 (value (attribute attributetype attributes)) && leb (value (attribute attributetype attributes)) longest
+-- the duration behind the life type of this value among the first k attributes of s, no bytes where there is none; lifetype is 11 or 1
+unfoldable pub findDuration : (k lifetype unit : ℕ) (s : Bytes) → Bytes
+findDuration zero lifetype unit s = []
+findDuration (suc k) lifetype unit s =
+    if ltb (length s) 4 then []
+    else if eqb (attributeType s) lifetype && eqb (value s) unit then take (attributeSize (afterAttribute s)) (afterAttribute s)
+    else findDuration k lifetype unit (afterAttribute s)
 
--- "exactly": so many attributes and no more
-unfoldable pub nothingSurplus : (wanted : ℕ) (attributes : Bytes) → Bool
-nothingSurplus wanted attributes = eqb (attributeCount attributes) wanted
+-- of life type 1, seconds, and of life type 2, kilobytes
+abbrev pub secondsOf : (lifetype : ℕ) (attributes : Bytes) → Bytes
+secondsOf lifetype attributes = findDuration 16 lifetype 1 attributes
 
--- "A main transform suits if its ID is 1 and its attributes are exactly 1=129, 2=20, 3=10, 20=2, 11=1 and 12 from 1 to the line's seconds"
+abbrev pub kilobytesOf : (lifetype : ℕ) (attributes : Bytes) → Bytes
+kilobytesOf lifetype attributes = findDuration 16 lifetype 2 attributes
+
+-- "seconds within the line"
+unfoldable pub secondsWithin : (lifetype longest : ℕ) (attributes : Bytes) → Bool
+secondsWithin lifetype longest attributes =
+    leb 4 (length (secondsOf lifetype attributes)) && leb 1 (value (secondsOf lifetype attributes)) && leb (value (secondsOf lifetype attributes)) longest
+
+-- "and, if present, kilobytes of at least 1"
+unfoldable pub hasKilobytes : (lifetype : ℕ) (attributes : Bytes) → Bool
+hasKilobytes lifetype attributes = leb 4 (length (kilobytesOf lifetype attributes))
+
+unfoldable pub kilobytesSome : (lifetype : ℕ) (attributes : Bytes) → Bool
+kilobytesSome lifetype attributes = not (hasKilobytes lifetype attributes) || leb 1 (value (kilobytesOf lifetype attributes))
+
+-- "exactly": so many attributes, two more with kilobytes, and no more
+unfoldable pub nothingSurplus : (wanted lifetype : ℕ) (attributes : Bytes) → Bool
+nothingSurplus wanted lifetype attributes = eqb (attributeCount attributes) (if hasKilobytes lifetype attributes then wanted + 2 else wanted)
+
+-- "A main transform suits if its ID is 1 and its attributes are exactly 1=129, 2=20, 3=10, 20=2, 11=1 and 12 from 1 to the line's seconds",
+-- "and, if present, kilobytes"
 unfoldable pub mainValues : (attributes : Bytes) → Bool
-mainValues attributes = valueIs 1 129 attributes && valueIs 2 20 attributes && valueIs 3 10 attributes && valueIs 20 2 attributes && valueIs 11 1 attributes
+mainValues attributes = valueIs 1 129 attributes && valueIs 2 20 attributes && valueIs 3 10 attributes && valueIs 20 2 attributes
 
 unfoldable pub mainSuits : (seconds : ℕ) (t : Bytes) → Bool
 mainSuits seconds t =
-    eqb (transformId t) 1 && mainValues (attributesOf t) && lifeWithin 12 seconds (attributesOf t) && nothingSurplus 6 (attributesOf t)
+    eqb (transformId t) 1 && mainValues (attributesOf t) && secondsWithin 11 seconds (attributesOf t) && kilobytesSome 11 (attributesOf t)
+    && nothingSurplus 6 11 (attributesOf t)
 
 -- "A quick one: ID 20 (AH) or 129 (ESP); attributes exactly 4=mode, 1=1, 2 from 1 to the line's seconds, and 5=20, but no 5 in an ESP that
--- goes with AH"
+-- goes with AH", "and, if present, kilobytes"
 unfoldable pub quickId : (protocol : ℕ) → ℕ
 quickId protocol = if eqb protocol 2 then 20 else 129
 
 unfoldable pub quickAuthentication : (protocols protocol : ℕ) (attributes : Bytes) → Bool
 quickAuthentication protocols protocol attributes =
-    if eqb protocols 2 && eqb protocol 3 then nothingSurplus 3 attributes
-    else valueIs 5 20 attributes && nothingSurplus 4 attributes
+    if eqb protocols 2 && eqb protocol 3 then nothingSurplus 3 1 attributes
+    else valueIs 5 20 attributes && nothingSurplus 4 1 attributes
 
 unfoldable pub quickSuits : (protocols mode seconds protocol : ℕ) (t : Bytes) → Bool
 quickSuits protocols mode seconds protocol t =
-    eqb (transformId t) (quickId protocol) && valueIs 4 mode (attributesOf t) && valueIs 1 1 (attributesOf t) && lifeWithin 2 seconds (attributesOf t)
-    && quickAuthentication protocols protocol (attributesOf t)
+    eqb (transformId t) (quickId protocol) && valueIs 4 mode (attributesOf t) && secondsWithin 1 seconds (attributesOf t)
+    && kilobytesSome 1 (attributesOf t) && quickAuthentication protocols protocol (attributesOf t)
 
 -- whether a transform of this protocol suits line i, counted from 0, of the book's quick lines, or of the lines for an exchange
 abbrev pub suitsQuickLine : (i : ℕ) (book : Bytes) (protocol : ℕ) (t : Bytes) → Bool

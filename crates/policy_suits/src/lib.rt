@@ -6,6 +6,8 @@ use policy_lines::quick_protocols;
 use policy_lines::quick_seconds;
 use sa_attribute::attribute;
 use sa_attribute::attribute_count;
+use sa_attribute::attribute_size;
+use sa_attribute::attribute_type;
 use sa_attribute::value;
 use sa_fields::TransformNumber;
 use sa_fields::attributes_of;
@@ -21,7 +23,7 @@ use wire_read::be16;
 use wire_read::front;
 ghost use mathlib.Core.Path.{_≡_};
 ghost use Rattle.policy_lines.specs.Lines.{place};
-ghost use Rattle.policy_suits.specs.Suits.{valueIs, lifeWithin, nothingSurplus, mainValues, mainSuits, quickId, quickAuthentication, suitsQuickLine, suitsLine, lowestIn, lowestTransform, hasTransform, protocolsAlone, protocolsBoth, protocolsSuit, setSuits};
+ghost use Rattle.policy_suits.specs.Suits.{valueIs, findDuration, secondsWithin, hasKilobytes, kilobytesSome, nothingSurplus, mainValues, mainSuits, quickId, quickAuthentication, suitsQuickLine, suitsLine, lowestIn, lowestTransform, hasTransform, protocolsAlone, protocolsBoth, protocolsSuit, setSuits};
 
 // The lowest transform of a proposal that suits a line. A transform's number may be 0, so that none is a case of its own.
 pub enum SuitingTransform {
@@ -43,18 +45,53 @@ fn value_is(attributetype: u16, wanted: u32, attributes: &[u8]) -> bool
     (4 <= found.len()) & (value(found) == wanted)
 }
 
-fn life_within(attributetype: u16, longest: u32, attributes: &[u8]) -> bool
-    ensures { λ r. ⌜ r ≡ lifeWithin attributetype longest (now (attributes .entry)) ⌝ }
+// The duration behind the life type of this value among the first `left` attributes; no bytes where there is none.
+fn find_duration(left: u8, lifetype: u16, unit: u32, s: &[u8]) -> &[u8]
+    ensures { λ r. ⌜ now r ≡ findDuration left lifetype unit (now (s .entry)) ⌝ }
 {
-    let found = attribute(attributetype, attributes);
+    if left == 0 {
+        return front(s, 0);
+    }
+    if s.len() < 4 {
+        return front(s, 0);
+    }
+    let behind = after(s, attribute_size(s));
+    if (attribute_type(s) == lifetype) & (value(s) == unit) {
+        return front(behind, attribute_size(behind));
+    }
+    find_duration(left - 1, lifetype, unit, behind)
+}
+
+fn seconds_within(lifetype: u16, longest: u32, attributes: &[u8]) -> bool
+    ensures { λ r. ⌜ r ≡ secondsWithin lifetype longest (now (attributes .entry)) ⌝ }
+{
+    let found = find_duration(16, lifetype, 1, attributes);
     let life = value(found);
     (4 <= found.len()) & (1 <= life) & (life <= longest)
 }
 
-fn nothing_surplus(wanted: u8, attributes: &[u8]) -> bool
-    ensures { λ r. ⌜ r ≡ nothingSurplus wanted (now (attributes .entry)) ⌝ }
+fn has_kilobytes(lifetype: u16, attributes: &[u8]) -> bool
+    ensures { λ r. ⌜ r ≡ hasKilobytes lifetype (now (attributes .entry)) ⌝ }
 {
-    attribute_count(attributes) == wanted
+    4 <= find_duration(16, lifetype, 2, attributes).len()
+}
+
+fn kilobytes_some(lifetype: u16, attributes: &[u8]) -> bool
+    ensures { λ r. ⌜ r ≡ kilobytesSome lifetype (now (attributes .entry)) ⌝ }
+{
+    let found = find_duration(16, lifetype, 2, attributes);
+    !(4 <= found.len()) | (1 <= value(found))
+}
+
+fn nothing_surplus(wanted: u8, lifetype: u16, attributes: &[u8]) -> bool
+    ensures { λ r. ⌜ r ≡ nothingSurplus wanted lifetype (now (attributes .entry)) ⌝ }
+{
+    let count = attribute_count(attributes) as u16;
+    if has_kilobytes(lifetype, attributes) {
+        count == wanted as u16 + 2
+    } else {
+        count == wanted as u16
+    }
 }
 
 fn main_values(attributes: &[u8]) -> bool
@@ -64,7 +101,6 @@ fn main_values(attributes: &[u8]) -> bool
         & value_is(2, 20, attributes)
         & value_is(3, 10, attributes)
         & value_is(20, 2, attributes)
-        & value_is(11, 1, attributes)
 }
 
 fn main_suits(seconds: u32, t: &[u8]) -> bool
@@ -73,8 +109,9 @@ fn main_suits(seconds: u32, t: &[u8]) -> bool
     let attributes = attributes_of(t);
     (transform_id(t) == 1)
         & main_values(attributes)
-        & life_within(12, seconds, attributes)
-        & nothing_surplus(6, attributes)
+        & seconds_within(11, seconds, attributes)
+        & kilobytes_some(11, attributes)
+        & nothing_surplus(6, 11, attributes)
 }
 
 pub fn quick_id(protocol: u8) -> u8
@@ -87,9 +124,9 @@ fn quick_authentication(protocols: u8, protocol: u8, attributes: &[u8]) -> bool
     ensures { λ r. ⌜ r ≡ quickAuthentication protocols protocol (now (attributes .entry)) ⌝ }
 {
     if (protocols == 2) & (protocol == 3) {
-        nothing_surplus(3, attributes)
+        nothing_surplus(3, 1, attributes)
     } else {
-        value_is(5, 20, attributes) & nothing_surplus(4, attributes)
+        value_is(5, 20, attributes) & nothing_surplus(4, 1, attributes)
     }
 }
 
@@ -103,13 +140,13 @@ fn quick_suits(line: LineNumber, book: &[u8], protocol: u8, t: &[u8]) -> bool
     }
     let i = place(line);
     // Lines differ most in their seconds, so the life is asked first, and the rest of the line read only where it suits.
-    if !life_within(2, quick_seconds(i, book), attributes) {
+    if !seconds_within(1, quick_seconds(i, book), attributes) {
         return false;
     }
     if !value_is(4, quick_mode(i, book) as u32, attributes) {
         return false;
     }
-    if !value_is(1, 1, attributes) {
+    if !kilobytes_some(1, attributes) {
         return false;
     }
     quick_authentication(quick_protocols(i, book), protocol, attributes)

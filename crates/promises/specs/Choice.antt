@@ -126,7 +126,7 @@ module _ (exchange : ℕ) (book body : Bytes) (reads : offerCode exchange body �
         transforms = numbers j i a t;
         a-set = a;
         a-line = b;
-        suits = suits-says exchange i book (set j body) t;
+        suits = suits-says exchange i book (set j body) (set-lawful exchange body reads j a .lawful) t;
         first-set = λ x c m v. no-suit exchange book body reads x c (omega arith) (f x (omega arith) m c v);
         first-line = λ c m. no-suit exchange book body reads j c a (g c m);
         lowest-transforms = lowest-in-each j i a t;

@@ -79,7 +79,8 @@ table =
 pub marked : map (λ (e : Example). e .defined) table ≡ map (λ (e : Example). e .printed) table
 unfolding table example numberAt allZero tagWrong constructed headSize bodySize contents size list filled element isElement isName
     attributes.sentFixed attributes.attributeType attributes.attributeSize attributes.afterAttribute coding.outOfBounds attributes.find
-    attributes.attribute coding.mustBeFixed coding.fixedWrong coding.isDuration coding.durationWrong coding.attributeCode
+    attributes.attribute coding.mustBeFixed coding.fixedWrong coding.isDuration coding.durationWrong coding.isLifeType coding.valueLength coding.fromValue coding.wholeValue coding.alike
+    coding.repeats coding.standsWrong coding.attributeCode coding.lastCode
     coding.attributesFrom coding.attributesCode transforms.nextWanted transforms.transformWrong transforms.transformCode
     transforms.transformsCode proposals.proposalWrong proposals.has proposals.with proposals.none proposals.setBefore proposals.orderWrong
     proposals.protocolWrong proposals.spiWrong proposals.countWrong proposals.transformBytes proposals.innerCode proposals.proposalCode
@@ -94,7 +95,7 @@ unfolding table example numberAt allZero tagWrong constructed headSize bodySize 
     sets.set sets.setCount items.proposal items.proposalCount fields.proposalNumber fields.protocol fields.transformCount items.transform fields.transformNumber
     fields.transformId fields.attributesOf lines.quickStart lines.quickCount lines.bookSize lines.mainSeconds lines.quickAt
     lines.quickProtocols lines.quickMode lines.quickSeconds books.mainLineLawful books.quickLineLawful books.mainLinesLawful
-    books.quickLinesLawful books.bookInFront books.bookRead suits.present suits.valueIs suits.lifeWithin suits.nothingSurplus
+    books.quickLinesLawful books.bookInFront books.bookRead suits.present suits.valueIs suits.findDuration suits.secondsWithin suits.hasKilobytes suits.kilobytesSome suits.nothingSurplus
     suits.mainValues suits.mainSuits suits.quickId suits.quickAuthentication suits.quickSuits suits.suitsLine suits.transformSuits
     suits.lowestFrom suits.lowest suits.protocolsAlone suits.protocolsBoth suits.protocolsSuit suits.setSuits choices.lineCount
     choices.lineFrom choices.firstLine choices.numberOf choices.transformsOf choices.chosen choices.setFrom choices.chooseFrom

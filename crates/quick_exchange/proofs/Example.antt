@@ -201,7 +201,8 @@ pub computed : Computed
 unfolding start bookOne bookTwo firstIdentity secondIdentity nonceOne nonceTwo buffer filled called after
     numberAt bytesOf head headed allZero equal paste
     attributes.sentFixed attributes.attributeType attributes.attributeSize attributes.afterAttribute coding.outOfBounds attributes.find attributes.attribute
-    coding.mustBeFixed coding.fixedWrong coding.isDuration coding.durationWrong coding.attributeCode coding.attributesFrom coding.attributesCode
+    coding.mustBeFixed coding.fixedWrong coding.isDuration coding.durationWrong coding.isLifeType coding.valueLength coding.fromValue coding.wholeValue coding.alike
+    coding.repeats coding.standsWrong coding.attributeCode coding.lastCode coding.attributesFrom coding.attributesCode
     attributes.value attributes.attributeCount
     transforms.nextWanted transforms.transformWrong transforms.transformCode transforms.transformsCode
     proposals.proposalWrong proposals.has proposals.with proposals.none proposals.setBefore proposals.orderWrong proposals.protocolWrong proposals.spiWrong
@@ -216,7 +217,7 @@ unfolding start bookOne bookTwo firstIdentity secondIdentity nonceOne nonceTwo b
     fields.transformNumber fields.transformId fields.attributesOf
     lines.quickStart lines.quickCount lines.bookSize lines.mainSeconds lines.quickAt lines.quickProtocols lines.quickMode lines.quickSeconds
     books.mainLineLawful books.quickLineLawful books.mainLinesLawful books.quickLinesLawful books.bookInFront
-    suits.present suits.valueIs suits.lifeWithin suits.nothingSurplus suits.quickId suits.quickAuthentication suits.quickSuits suits.suitsLine
+    suits.present suits.valueIs suits.findDuration suits.secondsWithin suits.hasKilobytes suits.kilobytesSome suits.nothingSurplus suits.quickId suits.quickAuthentication suits.quickSuits suits.suitsLine
     suits.transformSuits suits.lowestFrom suits.lowest suits.protocolsAlone suits.protocolsBoth suits.protocolsSuit suits.setSuits
     choices.lineCount choices.lineFrom choices.firstLine choices.numberOf choices.transformsOf choices.chosen choices.setFrom choices.chooseFrom choices.bodyAt
     replies.ownSpi replies.fields replies.proposalOf replies.proposalReply replies.setReply replies.saOf

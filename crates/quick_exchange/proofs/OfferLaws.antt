@@ -15,8 +15,8 @@ use Rattle.wire_read.specs.Tests.{if_then_else_}
 use Rattle.wire_read.proofs.Tests.{by-test}
 use Rattle.wire_read.proofs.Laws.{number-append, number-append-add}
 use Rattle.wire_write.proofs.Laws.{number-bytesOf, length-bytesOf, length-headed, headed-lies}
-use Rattle.sa_attribute.specs.Attributes.{sentFixed, attributeType, attributeSize, afterAttribute, find, attribute}
-use Rattle.sa_coding.specs.Coding.{outOfBounds, mustBeFixed, fixedWrong, isDuration, durationWrong, attributeCode, attributesFrom, attributesCode}
+use Rattle.sa_attribute.specs.Attributes.{sentFixed, attributeType, attributeSize, afterAttribute}
+use Rattle.sa_coding.specs.Coding.{outOfBounds, mustBeFixed, fixedWrong, isDuration, durationWrong, isLifeType, valueLength, fromValue, wholeValue, alike, repeats, standsWrong, attributeCode, lastCode, attributesFrom, attributesCode}
 use Rattle.sa_proposals.specs.Proposals.{has, with, setBefore, orderWrong, protocolWrong, proposalCode, proposalsCode}
 use Rattle.sa_proposals.specs.Proposals as proposals
 use Rattle.sa_proposals.proofs.Laws.{Item, Rising, end, on}
@@ -40,13 +40,13 @@ use Rattle.quick_end.specs.declared.Own.{Own}
 -- "the suiting attributes with the line's seconds, sent fixed, in the order 4, 5 where there is one, 1, 2"
 module _ (mode high low : ℕ) where
   four-lawful : attributesCode 32 (0x80 ∷ 4 ∷ 0 ∷ mode ∷ 0x80 ∷ 5 ∷ 0 ∷ 20 ∷ 0x80 ∷ 1 ∷ 0 ∷ 1 ∷ 0x80 ∷ 2 ∷ high ∷ low ∷ []) ≡ 0
-  unfolding sentFixed attributeType attributeSize afterAttribute outOfBounds find attribute mustBeFixed fixedWrong isDuration durationWrong attributeCode
-      attributesFrom attributesCode numberAt
+  unfolding sentFixed attributeType attributeSize afterAttribute outOfBounds mustBeFixed fixedWrong isDuration durationWrong isLifeType
+      valueLength fromValue wholeValue alike repeats standsWrong attributeCode lastCode attributesFrom attributesCode numberAt
   four-lawful = refl
 
   three-lawful : attributesCode 32 (0x80 ∷ 4 ∷ 0 ∷ mode ∷ 0x80 ∷ 1 ∷ 0 ∷ 1 ∷ 0x80 ∷ 2 ∷ high ∷ low ∷ []) ≡ 0
-  unfolding sentFixed attributeType attributeSize afterAttribute outOfBounds find attribute mustBeFixed fixedWrong isDuration durationWrong attributeCode
-      attributesFrom attributesCode numberAt
+  unfolding sentFixed attributeType attributeSize afterAttribute outOfBounds mustBeFixed fixedWrong isDuration durationWrong isLifeType
+      valueLength fromValue wholeValue alike repeats standsWrong attributeCode lastCode attributesFrom attributesCode numberAt
   three-lawful = refl
 
 module _ (protocol i : ℕ) (book : List ℕ) where

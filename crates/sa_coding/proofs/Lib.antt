@@ -1,2 +1,3 @@
-pub mod Laws
+pub mod Heads
+pub mod Wholes
 mod Ways

@@ -1,4 +1,4 @@
-use Rattle.policy_suits.proofs.SuitWays.{quick-other, quick-mode, quick-unit, quick-life, quick-rest}
+use Rattle.policy_suits.proofs.SuitWays.{quick-other, quick-life, quick-mode, quick-kilobytes, quick-rest}
 use borrow.Author.Needs.{needs}
 use Rattle.policy_suits.proofs.quick_suits.Statement.{statement}
 use Rattle.policy_suits.proofs.quick_suits.Tie as tie
@@ -20,7 +20,7 @@ quick-suits-spec =
     (λ c κs. search needs)
     (λ c. search quick-mode)
     (λ c κs. search needs)
-    (λ c. search quick-unit)
+    (λ c. search quick-kilobytes)
     (λ c κs. search needs)
     (λ c κs. search needs)
     (λ c. search quick-rest))

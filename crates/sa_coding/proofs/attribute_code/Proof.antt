@@ -1,4 +1,4 @@
-use Rattle.sa_coding.proofs.Ways.{code-bounds, code-twice, code-fixed, code-duration, code-done}
+use Rattle.sa_coding.proofs.Ways.{code-bounds, code-stands, code-fixed, code-duration, code-done}
 use borrow.Author.Needs.{needs}
 use Rattle.sa_coding.proofs.attribute_code.Statement.{statement}
 use Rattle.sa_coding.proofs.attribute_code.Tie as tie
@@ -10,8 +10,7 @@ attribute-code-spec =
     (λ c κs. search needs)
     (λ c. search code-bounds)
     (λ c κs. search needs)
-    (λ c κs. search needs)
-    (λ c. search code-twice)
+    (λ c. search code-stands)
     (λ c κs. search needs)
     (λ c. search code-fixed)
     (λ c κs. search needs)
