@@ -16,6 +16,8 @@ pub mod Port4500
 pub mod Payloads
 pub mod Sets
 pub mod Choice
+pub mod Lifetimes
+pub mod LifetimeExamples
 pub mod PolicySuits
 pub mod Reply
 pub mod SequenceAnswers
