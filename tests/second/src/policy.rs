@@ -1,4 +1,4 @@
-//! Document 01, "Policy book and choice": the book, and which set, line and transforms are chosen.
+//! Document 01, "Policy book and choice", and request two: the book, and which set, line and transforms are chosen.
 //!
 //! Book: count, main lines of seconds (4); count, quick lines of protocols, mode, seconds (4).
 
@@ -14,6 +14,10 @@ const QUICK_LINE_SIZE: usize = 6;
 const MAIN_SECONDS: RangeInclusive<u32> = 1..=86_400;
 const QUICK_SECONDS: RangeInclusive<u32> = 1..=3_600;
 const MODES: RangeInclusive<u8> = 1..=4;
+
+/// The values of a life type that mean something.
+const SECONDS: u64 = 1;
+const KILOBYTES: u64 = 2;
 
 pub struct Book {
     pub main: Vec<Line>,
@@ -128,45 +132,101 @@ impl Line {
     fn suits(&self, protocol: u8, transform: &Transform) -> bool {
         match (self, protocol) {
             (&Line::Main { seconds }, ISAKMP) => {
-                let wanted = [is(1, 129), is(2, 20), is(3, 10), is(20, 2), is(11, 1), (12, 1..=seconds)];
-                transform.id == 1 && has_exactly(transform, &wanted)
+                transform.id == 1 && has_exactly(transform, &[(1, 129), (2, 20), (3, 10), (20, 2)], seconds)
             }
             (&Line::AhWithEsp { mode, seconds }, AH) => {
-                let wanted = [is(4, mode), is(1, 1), (2, 1..=seconds), is(5, 20)];
-                transform.id == 20 && has_exactly(transform, &wanted)
+                transform.id == 20 && has_exactly(transform, &[(4, mode.into()), (5, 20)], seconds)
             }
             (&Line::EspAlone { mode, seconds }, ESP) => {
-                let wanted = [is(4, mode), is(1, 1), (2, 1..=seconds), is(5, 20)];
-                transform.id == 129 && has_exactly(transform, &wanted)
+                transform.id == 129 && has_exactly(transform, &[(4, mode.into()), (5, 20)], seconds)
             }
             (&Line::AhWithEsp { mode, seconds }, ESP) => {
-                let wanted = [is(4, mode), is(1, 1), (2, 1..=seconds)];
-                transform.id == 129 && has_exactly(transform, &wanted)
+                transform.id == 129 && has_exactly(transform, &[(4, mode.into())], seconds)
             }
             _ => false,
         }
     }
 }
 
-/// An attribute's type and the values that are wanted.
-type Wanted = (u16, RangeInclusive<u32>);
-
-fn is(kind: u16, value: u32) -> Wanted {
-    (kind, value..=value)
+/// These types with these values and no others, and "seconds within the line and, if present, kilobytes of at least 1".
+fn has_exactly(transform: &Transform, wanted: &[(u16, u64)], most_seconds: u32) -> bool {
+    let (singles, lifetimes) = (transform.singles(), transform.lifetimes());
+    let lasts = |&(life_type, duration): &(u64, u64)| match life_type {
+        SECONDS => (1..=most_seconds.into()).contains(&duration),
+        KILOBYTES => duration >= 1,
+        _ => false,
+    };
+    // No type and no life type value occurs twice, so that as many as are wanted, each of them wanted, are all of them.
+    singles.len() == wanted.len()
+        && singles.iter().all(|single| wanted.contains(single))
+        && lifetimes.iter().any(|&(life_type, _)| life_type == SECONDS)
+        && lifetimes.iter().all(lasts)
 }
 
-/// A type occurs once in a transform, so that as many attributes as are wanted, each of them wanted, are all of them.
-fn has_exactly(transform: &Transform, wanted: &[Wanted]) -> bool {
-    let is_wanted = |(kind, value)| wanted.iter().any(|(type_, values)| *type_ == kind && values.contains(&value));
-    let mut count = 0;
-    for attribute in transform.attributes() {
-        let Some(value) = attribute.number() else {
-            return false;
-        };
-        if !is_wanted((attribute.kind, value)) {
-            return false;
+#[cfg(test)]
+mod tests {
+    use super::*;
+    use crate::message::QUICK_MODE;
+    use crate::offer::tests::{body, Sent, Sent::*};
+
+    /// Whether these lifetimes, at any place among what a line of 3,600 seconds wants besides, suit it; the same for each
+    /// protocol of each sort of line.
+    fn suit(lifetimes: &[Sent]) -> bool {
+        let (seconds, mode) = (3_600, 1);
+        let lines = [
+            (Line::Main { seconds }, ISAKMP, 1, &[(1, 129), (2, 20), (3, 10), (20, 2)][..]),
+            (Line::EspAlone { mode, seconds }, ESP, 129, &[(4, 1), (5, 20)]),
+            (Line::AhWithEsp { mode, seconds }, AH, 20, &[(4, 1), (5, 20)]),
+            (Line::AhWithEsp { mode, seconds }, ESP, 129, &[(4, 1)]),
+        ];
+        let mut answers = Vec::new();
+        for (line, protocol, id, others) in lines {
+            for place in 0..=others.len() {
+                let mut attributes: Vec<Sent> = others.iter().map(|&(kind, value)| Other(kind, value)).collect();
+                attributes.splice(place..place, lifetimes.iter().copied());
+                let body = body(protocol, id, &attributes);
+                let exchange = if protocol == ISAKMP { MAIN_MODE } else { QUICK_MODE };
+                assert_eq!(offer::check(exchange, &body), Ok(()));
+                let set: Vec<_> = offer::proposals(&body).collect();
+                answers.push(set[0].transforms().all(|transform| line.suits(protocol, &transform)));
+            }
         }
-        count += 1;
+        answers.dedup();
+        assert_eq!(answers.len(), 1);
+        answers[0]
     }
-    count == wanted.len()
+
+    #[test]
+    fn seconds_are_the_duration_behind_life_type_1() {
+        assert!(suit(&[LifeType(1), Duration(1)]));
+        assert!(suit(&[LifeType(1), VariableDuration(&[0, 0, 0x0e, 0x10])]));
+        assert!(!suit(&[LifeType(1), Duration(0)]));
+        assert!(!suit(&[LifeType(1), Duration(3_601)]));
+        assert!(!suit(&[LifeType(1), VariableDuration(&[1, 0, 0, 1])]));
+        assert!(!suit(&[]));
+    }
+
+    #[test]
+    fn kilobytes_beside_seconds_are_at_least_1() {
+        assert!(!suit(&[LifeType(1), Duration(3_600), LifeType(2), Duration(0)]));
+        assert!(!suit(&[LifeType(1), Duration(3_600), LifeType(2), VariableDuration(&[0; 4])]));
+        assert!(suit(&[LifeType(1), Duration(3_600), LifeType(2), Duration(1)]));
+        assert!(suit(&[LifeType(1), Duration(3_600), LifeType(2), VariableDuration(&[0xff; 4])]));
+        assert!(suit(&[LifeType(2), VariableDuration(&[1]), LifeType(1), Duration(1)]));
+        assert!(!suit(&[LifeType(2), Duration(1), LifeType(1), Duration(3_601)]));
+    }
+
+    #[test]
+    fn kilobytes_without_seconds_do_not_suit() {
+        assert!(!suit(&[LifeType(2), Duration(1)]));
+    }
+
+    #[test]
+    fn a_lifetime_of_any_other_type_is_surplus() {
+        for value in [0, 3, 257, 258, u16::MAX] {
+            assert!(!suit(&[LifeType(1), Duration(1), LifeType(value), Duration(1)]));
+            assert!(!suit(&[LifeType(value), Duration(1), LifeType(2), Duration(1), LifeType(1), Duration(1)]));
+            assert!(!suit(&[LifeType(value), Duration(1)]));
+        }
+    }
 }
