@@ -1,13 +1,13 @@
 //! The checks of a reading in document 01's order, each with a way to break it that leaves the checks before it met.
 
-use crate::layout::Length;
+use crate::layout::{get, Length};
 use crate::message::{
     opaque, Body, Message, Payload, Rest, CERTIFICATE, HASH, IDENTITY, INFORMATIONAL, LONGEST, MAIN_MODE,
     MOST_PAYLOADS, NONCE, QUICK_MODE, SA, VENDOR,
 };
 use crate::offer::{
-    self, fixed, free_kind, is_fixed, life_duration, variable, Attribute, Offer, Transform, Value, AH, ESP,
-    MOST_ATTRIBUTES, MOST_PROPOSALS, SMALL,
+    self, fixed, free_kind, is_fixed, is_of_lifetime, items, life_duration, life_type, lifetime, random_lifetime,
+    variable, Attribute, Item, Offer, Transform, Value, AH, ESP, MOST_ATTRIBUTES, MOST_PROPOSALS, SMALL,
 };
 use crate::random::Random;
 
@@ -160,14 +160,15 @@ pub const CHECKS: &[Check] = &[
         })
     }),
     check("attribute's first bytes past the transform's end", 15, |random, message| {
-        in_transform(message, |_, transform| {
-            transform.attributes.pop();
-            let size = random.between(1, 3);
-            transform.rest = random.bytes(size);
-        })
+        in_items(message, |_, items| drop(items.pop()))
+            && in_transform(message, |_, transform| {
+                let size = random.between(1, 3);
+                transform.rest = random.bytes(size);
+            })
     }),
     check("attribute's value past the transform's end", 15, |random, message| {
-        in_last_attribute(message, |_, attribute| {
+        in_items(message, |_, items| {
+            let attribute = items.last_mut().and_then(|item| item.last_mut()).expect("it has one");
             attribute.value = Value::Variable(Length::PastEnd(random.one_of(&[1, 2, 40_000])), random.bytes(3));
         })
     }),
@@ -178,23 +179,42 @@ pub const CHECKS: &[Check] = &[
         })
     }),
     check("attribute's type twice", 15, |random, message| {
-        in_transform(message, |_, transform| {
-            let kind = transform.attributes.last().expect("it has one").kind;
-            let at = random.below(transform.attributes.len());
-            transform.attributes.insert(at, fixed(kind, 1));
+        in_items(message, |exchange, items| type_twice(random, exchange, items))
+    }),
+    check("duration not right behind a life type", 15, |random, message| {
+        in_items(message, |exchange, items| duration_without_life_type(random, exchange, items))
+    }),
+    check("life type's value repeated", 15, |random, message| {
+        in_items(message, |exchange, items| life_type_repeated(random, exchange, items))
+    }),
+    check("something else behind a life type", 15, |random, message| {
+        in_items(message, |exchange, items| {
+            let alone = fixed(life_type(exchange), unused_value(random, exchange, items));
+            items.insert(items.len() - 1, vec![alone]);
         })
     }),
     check("fixed type sent variable", 13, |random, message| {
-        in_transform(message, |exchange, transform| {
+        in_items(message, |exchange, items| {
             let kinds: Vec<_> = (0..=20).filter(|&kind| is_fixed(exchange, kind)).collect();
+            let kind = random.one_of(&kinds);
             let size = random.one_of(&[0, 1, 2, 4]);
-            replace_last(transform, variable(random.one_of(&kinds), random.bytes(size)));
+            items.pop();
+            items.retain(|before| before[0].kind != kind);
+            items.push(vec![variable(kind, random.bytes(size))]);
         })
     }),
     check("life duration's size", 13, |random, message| {
-        in_transform(message, |exchange, transform| {
+        in_items(message, |exchange, items| {
             let size = random.one_of(&[0, 5, 6, 8]);
-            replace_last(transform, variable(life_duration(exchange), random.bytes(size)));
+            let duration = variable(life_duration(exchange), random.bytes(size));
+            items.pop();
+            items.push(lifetime(exchange, unused_value(random, exchange, items), duration));
+        })
+    }),
+    check("life type last", 15, |random, message| {
+        in_items(message, |exchange, items| {
+            let alone = fixed(life_type(exchange), unused_value(random, exchange, items));
+            items.push(vec![alone]);
         })
     }),
     check("bytes left over in a proposal", 15, |random, message| {
@@ -332,23 +352,89 @@ fn in_transform(message: &mut Message, change: impl FnOnce(u8, &mut Transform)) 
     })
 }
 
-fn in_last_attribute(message: &mut Message, change: impl FnOnce(u8, &mut Attribute)) -> bool {
+/// Changes what the last transform is made of; a life type that is last stays so.
+fn in_items(message: &mut Message, change: impl FnOnce(u8, &mut Vec<Item>)) -> bool {
     in_transform(message, |exchange, transform| {
-        change(exchange, transform.attributes.last_mut().expect("it has one"));
+        let mut items = items(exchange, &transform.attributes);
+        let last = items.pop_if(|last| is_life_type_alone(exchange, last));
+        if items.is_empty() {
+            items.push(vec![variable(free_kind(exchange), vec![1])]);
+        }
+        change(exchange, &mut items);
+        transform.attributes = items.into_iter().chain(last).flatten().collect();
     })
 }
 
-/// Puts an attribute in the place of the last, and takes others of its type away.
-fn replace_last(transform: &mut Transform, attribute: Attribute) {
-    transform.attributes.pop();
-    transform.attributes.retain(|before| before.kind != attribute.kind);
-    transform.attributes.push(attribute);
+/// One in variable form is coded wrongly whatever is behind it.
+fn is_life_type_alone(exchange: u8, item: &Item) -> bool {
+    item.len() == 1 && item[0].kind == life_type(exchange) && item[0].fixed_value().is_some()
 }
 
-/// Sixteen attributes of types that the transform does not have.
+/// A place before the last item that is not behind a life type alone.
+fn border_before_last(random: &mut Random, exchange: u8, items: &[Item]) -> usize {
+    let is_border = |place: &usize| *place == 0 || !is_life_type_alone(exchange, &items[*place - 1]);
+    let borders: Vec<_> = (0..items.len()).filter(is_border).collect();
+    random.one_of(&borders)
+}
+
+/// A value that no life type there has.
+fn unused_value(random: &mut Random, exchange: u8, items: &[Item]) -> u16 {
+    let has = |value: u16| {
+        items.iter().any(|item| item[0].kind == life_type(exchange) && item[0].fixed_value() == Some(value))
+    };
+    loop {
+        let value = [random.below(4) as u16, random.number(16) as u16][random.below(2)];
+        if !has(value) {
+            return value;
+        }
+    }
+}
+
+/// Twice is the last attribute's type, or one that no lifetime has.
+fn type_twice(random: &mut Random, exchange: u8, items: &mut Vec<Item>) {
+    let last = items[items.len() - 1][0].kind;
+    let is_unused = |kind: &u16| items.iter().flatten().all(|attribute| attribute.kind != *kind);
+    let kinds = if is_of_lifetime(exchange, last) {
+        vec![(1_000..).find(is_unused).expect("there are fewer attributes"); 2]
+    } else {
+        vec![last]
+    };
+    for kind in kinds {
+        items.insert(border_before_last(random, exchange, items), vec![fixed(kind, 1)]);
+    }
+}
+
+/// The last lifetime loses its life type, or another duration stands before.
+fn duration_without_life_type(random: &mut Random, exchange: u8, items: &mut Vec<Item>) {
+    let last = items.len() - 1;
+    let would_pair = last > 0 && is_life_type_alone(exchange, &items[last - 1]);
+    if items[last].len() == 2 && !would_pair {
+        items[last].remove(0);
+        return;
+    }
+    let duration = offer::random_attribute(random, exchange, life_duration(exchange));
+    items.insert(border_before_last(random, exchange, items), vec![duration]);
+}
+
+/// That of the last life type stands in a lifetime before, or two lifetimes before share one.
+fn life_type_repeated(random: &mut Random, exchange: u8, items: &mut Vec<Item>) {
+    let last = &items[items.len() - 1][0];
+    let value = match &last.value {
+        _ if last.kind != life_type(exchange) => None,
+        Value::Fixed(value) => Some(*value),
+        Value::Variable(_, bytes) => (bytes.len() <= 2).then(|| get(bytes, 0, bytes.len()) as u16),
+    };
+    let unused = unused_value(random, exchange, items);
+    for value in value.map_or(vec![unused; 2], |value| vec![value]) {
+        let again = random_lifetime(random, exchange, value);
+        items.insert(border_before_last(random, exchange, items), again);
+    }
+}
+
+/// Sixteen attributes of types that the transform does not have, and of no lifetime.
 fn lawful_attributes_beside(random: &mut Random, exchange: u8, transform: &Transform) -> Vec<Attribute> {
     let has = |kind: u16| transform.attributes.iter().any(|attribute| attribute.kind == kind);
-    let kinds = (0..).filter(|&kind| !has(kind)).take(MOST_ATTRIBUTES);
+    let kinds = (0..).filter(|&kind| !has(kind) && !is_of_lifetime(exchange, kind)).take(MOST_ATTRIBUTES);
     kinds.map(|kind| offer::random_attribute(random, exchange, kind)).collect()
 }
 

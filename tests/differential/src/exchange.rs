@@ -5,7 +5,7 @@
 use crate::cases::{bytes, refused, word, Cases};
 use crate::identity;
 use crate::message::{message_of, opaque, sa, Message, Payload, HASH, IDENTITY, NONCE, QUICK_MODE};
-use crate::offer::{fixed, proposal_of, transform, Offer, Proposal, AH, SMALL};
+use crate::offer::{fixed, lifetime, proposal_of, transform, Offer, Proposal, AH, SECONDS, SMALL};
 use crate::policy::{self, book_of, suiting_id, Book, Line, MOST_LINES};
 use crate::random::Random;
 use second::bench::Bench;
@@ -152,9 +152,7 @@ pub fn chosen_line([initiator, responder]: &[Given; 2]) -> Option<usize> {
 pub fn proposals(number: u8, line: &Line, own: &Given) -> Vec<Proposal> {
     let proposal = |&protocol: &u8| {
         let mut attributes = line.wanted(protocol);
-        attributes.push(fixed(2, line.seconds as u16));
-        let place = |kind: u16| [4, 5, 1, 2].iter().position(|&each| each == kind);
-        attributes.sort_by_key(|attribute| place(attribute.kind));
+        attributes.extend(lifetime(QUICK_MODE, SECONDS, fixed(2, line.seconds as u16)));
         let offered = transform(1, suiting_id(protocol), attributes);
         let spi = own.spi(protocol).to_be_bytes().to_vec();
         proposal_of(number, protocol, spi, vec![offered])

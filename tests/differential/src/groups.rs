@@ -13,6 +13,7 @@ mod ends;
 mod exchanges;
 mod frames;
 mod identities;
+mod lifetimes;
 mod lines;
 mod message_checks;
 mod message_damage;
@@ -85,6 +86,7 @@ pub const ALL: &[Group] = &[
     frames::GROUP,
     books::GROUP,
     choices::GROUP,
+    lifetimes::GROUP,
     replies::GROUP,
     verdicts::GROUP,
     captures::GROUP,

@@ -11,6 +11,9 @@ pub const ESP: u8 = 3;
 pub const MOST_PROPOSALS: usize = 16;
 pub const MOST_TRANSFORMS: usize = 8;
 pub const MOST_ATTRIBUTES: usize = 16;
+/// The values of a life type that a line asks for.
+pub const SECONDS: u16 = 1;
+pub const KILOBYTES: u16 = 2;
 /// The first proposal's number is never lower, so that lawful ones fit in before it.
 pub const ROOM_FOR_NUMBERS: usize = 20;
 
@@ -116,6 +119,14 @@ impl Transform {
 }
 
 impl Attribute {
+    /// Its value, if it is sent fixed.
+    pub fn fixed_value(&self) -> Option<u16> {
+        match self.value {
+            Value::Fixed(value) => Some(value),
+            Value::Variable(..) => None,
+        }
+    }
+
     fn write(&self, layout: &mut Layout) {
         match &self.value {
             Value::Fixed(value) => {
@@ -140,12 +151,25 @@ pub fn is_fixed(exchange: u8, kind: u16) -> bool {
     }
 }
 
+pub fn life_type(exchange: u8) -> u16 {
+    if exchange == MAIN_MODE {
+        11
+    } else {
+        1
+    }
+}
+
 pub fn life_duration(exchange: u8) -> u16 {
     if exchange == MAIN_MODE {
         12
     } else {
         2
     }
+}
+
+/// Whether it is the life type or the life duration.
+pub fn is_of_lifetime(exchange: u8, kind: u16) -> bool {
+    kind == life_type(exchange) || kind == life_duration(exchange)
 }
 
 /// A type that need not be sent fixed, and has no rule for its length.
@@ -175,20 +199,61 @@ pub fn random_attribute(random: &mut Random, exchange: u8, kind: u16) -> Attribu
     variable(kind, random.bytes(size))
 }
 
-/// So many attributes of different types: those of the tables, others, and the largest.
+/// A life type, and behind it its duration.
+pub fn lifetime(exchange: u8, value: u16, duration: Attribute) -> Item {
+    vec![fixed(life_type(exchange), value), duration]
+}
+
+/// A lifetime whose duration is coded lawfully.
+pub fn random_lifetime(random: &mut Random, exchange: u8, value: u16) -> Item {
+    let duration = random_attribute(random, exchange, life_duration(exchange));
+    lifetime(exchange, value, duration)
+}
+
+/// What has its place as a whole: an attribute by itself, or a lifetime.
+pub type Item = Vec<Attribute>;
+
+/// The items of a transform; a life type without a duration behind it is one as well.
+pub fn items(exchange: u8, attributes: &[Attribute]) -> Vec<Item> {
+    let is_pair =
+        |one: &Attribute, next: &Attribute| one.kind == life_type(exchange) && next.kind == life_duration(exchange);
+    attributes.chunk_by(is_pair).map(<[_]>::to_vec).collect()
+}
+
+/// A place in a transform that does not part a life type from what is behind it.
+pub fn random_border(random: &mut Random, exchange: u8, attributes: &[Attribute]) -> usize {
+    let parts = |place: &usize| *place > 0 && attributes[*place - 1].kind == life_type(exchange);
+    let borders: Vec<_> = (0..=attributes.len()).filter(|place| !parts(place)).collect();
+    random.one_of(&borders)
+}
+
+/// So many attributes: those of the tables, others, and the largest, each type once but for lifetimes of different types.
 pub fn random_attributes(random: &mut Random, exchange: u8, count: usize) -> Vec<Attribute> {
     let mut attributes: Vec<Attribute> = Vec::new();
     while attributes.len() < count {
-        let kind = match random.below(8) {
-            0 => 0x7fff - random.below(3) as u16,
-            1 => random.number(15) as u16,
-            _ => random.between(0, 24) as u16,
+        let item = random_item(random, exchange);
+        let is_like = |other: &Attribute| {
+            other.kind == item[0].kind && (item.len() == 1 || other.fixed_value() == item[0].fixed_value())
         };
-        if attributes.iter().all(|before| before.kind != kind) {
-            attributes.push(random_attribute(random, exchange, kind));
+        if attributes.len() + item.len() <= count && !attributes.iter().any(is_like) {
+            attributes.extend(item);
         }
     }
     attributes
+}
+
+fn random_item(random: &mut Random, exchange: u8) -> Item {
+    let kind = match random.below(9) {
+        0 => 0x7fff - random.below(3) as u16,
+        1 => random.number(15) as u16,
+        2 => life_type(exchange),
+        _ => random.between(0, 24) as u16,
+    };
+    if is_of_lifetime(exchange, kind) {
+        let value = [random.below(4) as u16, random.number(16) as u16][random.below(2)];
+        return random_lifetime(random, exchange, value);
+    }
+    vec![random_attribute(random, exchange, kind)]
 }
 
 pub fn transform(number: u8, id: u8, attributes: Vec<Attribute>) -> Transform {
@@ -204,7 +269,7 @@ pub fn transform(number: u8, id: u8, attributes: Vec<Attribute>) -> Transform {
     }
 }
 
-/// The attributes that suit, in the order in which the standard lists them.
+/// The attributes that suit, in the order in which the standard lists them; in some kilobytes behind the seconds.
 fn usual_attributes(random: &mut Random, exchange: u8) -> Vec<Attribute> {
     let seconds = random.between(1, 3_600);
     let duration = match random.below(3) {
@@ -212,11 +277,14 @@ fn usual_attributes(random: &mut Random, exchange: u8) -> Vec<Attribute> {
         _ => fixed(life_duration(exchange), seconds as u16),
     };
     let mut attributes = if exchange == MAIN_MODE {
-        vec![fixed(1, 129), fixed(2, 20), fixed(3, 10), fixed(20, 2), fixed(11, 1)]
+        vec![fixed(1, 129), fixed(2, 20), fixed(3, 10), fixed(20, 2)]
     } else {
-        vec![fixed(4, random.between(1, 4) as u16), fixed(5, 20), fixed(1, 1)]
+        vec![fixed(4, random.between(1, 4) as u16), fixed(5, 20)]
     };
-    attributes.push(duration);
+    attributes.extend(lifetime(exchange, SECONDS, duration));
+    if random.once_in(3) {
+        attributes.extend(random_lifetime(random, exchange, KILOBYTES));
+    }
     attributes
 }
 
@@ -302,4 +370,37 @@ pub fn offer_of(random: &mut Random, exchange: u8, count: usize, sizes: Sizes) -
         proposals.push(random_proposal(random, exchange, number, protocol, sizes));
     }
     Offer { doi: 1, situation: 1, proposals, rest: Vec::new() }
+}
+
+#[cfg(test)]
+mod tests {
+    use super::*;
+
+    #[test]
+    fn lifetimes_are_made_whole_and_each_life_type_once() {
+        let mut random = Random::new(1, "attributes");
+        for exchange in [MAIN_MODE, QUICK_MODE] {
+            for count in (0..=MOST_ATTRIBUTES).flat_map(|count| [count; 40]) {
+                let attributes = random_attributes(&mut random, exchange, count);
+                assert_eq!(attributes.len(), count);
+                let whole = items(exchange, &attributes);
+                let (pairs, singles): (Vec<_>, Vec<_>) = whole.into_iter().partition(|item| item.len() == 2);
+                let mut values: Vec<_> = pairs.iter().map(|pair| pair[0].fixed_value()).collect();
+                values.sort();
+                values.dedup();
+                assert_eq!(values.len(), pairs.len());
+                assert!(singles.iter().all(|single| !is_of_lifetime(exchange, single[0].kind)));
+            }
+        }
+    }
+
+    #[test]
+    fn no_border_parts_a_lifetime() {
+        let mut random = Random::new(1, "borders");
+        let attributes = [lifetime(QUICK_MODE, 1, fixed(2, 1)), vec![fixed(4, 1)]].concat();
+        let mut borders: Vec<_> = (0..100).map(|_| random_border(&mut random, QUICK_MODE, &attributes)).collect();
+        borders.sort();
+        borders.dedup();
+        assert_eq!(borders, [0, 2, 3]);
+    }
 }

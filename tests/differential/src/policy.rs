@@ -2,8 +2,9 @@
 
 use crate::message::{MAIN_MODE, QUICK_MODE};
 use crate::offer::{
-    fixed, free_kind, lawful_spi, life_duration, proposal_of, random_attribute, transform, variable, Attribute, Offer,
-    Proposal, Transform, Value, AH, ESP, ISAKMP,
+    fixed, free_kind, items, lawful_spi, life_duration, life_type, lifetime, proposal_of, random_attribute,
+    random_border, random_lifetime, transform, variable, Attribute, Item, Offer, Proposal, Transform, Value, AH, ESP,
+    ISAKMP, KILOBYTES, SECONDS,
 };
 use crate::random::Random;
 
@@ -41,13 +42,13 @@ impl Line {
         }
     }
 
-    /// What a transform of that protocol must have, beside its life duration.
+    /// What a transform of that protocol must have, beside its lifetimes.
     pub fn wanted(&self, protocol: u8) -> Vec<Attribute> {
         let mode = fixed(4, self.mode.into());
         match protocol {
-            ISAKMP => vec![fixed(1, 129), fixed(2, 20), fixed(3, 10), fixed(20, 2), fixed(11, 1)],
-            ESP if self.protocols == AH_WITH_ESP => vec![mode, fixed(1, 1)],
-            _ => vec![mode, fixed(1, 1), fixed(5, 20)],
+            ISAKMP => vec![fixed(1, 129), fixed(2, 20), fixed(3, 10), fixed(20, 2)],
+            ESP if self.protocols == AH_WITH_ESP => vec![mode],
+            _ => vec![mode, fixed(5, 20)],
         }
     }
 
@@ -123,34 +124,61 @@ pub fn book_of(random: &mut Random, main: usize, quick: usize) -> Book {
     Book { main, quick: quick.collect() }
 }
 
-/// Every way to send so many seconds: fixed, and variable of each size that holds them.
-pub fn codings(kind: u16, seconds: u32) -> Vec<Attribute> {
-    let bytes = seconds.to_be_bytes();
+/// Every way to send a number: fixed, and variable of each size that holds it.
+pub fn codings(kind: u16, number: u32) -> Vec<Attribute> {
+    let bytes = number.to_be_bytes();
     let holds = |&size: &usize| bytes[..4 - size].iter().all(|&byte| byte == 0);
     let sizes = (1..=4).filter(holds);
     let mut codings: Vec<_> = sizes.map(|size| variable(kind, bytes[4 - size..].to_vec())).collect();
-    codings.extend(u16::try_from(seconds).ok().map(|seconds| fixed(kind, seconds)));
+    codings.extend(u16::try_from(number).ok().map(|number| fixed(kind, number)));
     codings
 }
 
-fn shuffle<Item>(random: &mut Random, items: &mut [Item]) {
-    for at in (1..items.len()).rev() {
-        items.swap(at, random.below(at + 1));
+/// A duration sent in any way.
+fn random_coding(random: &mut Random, exchange: u8, number: u32) -> Attribute {
+    let mut codings = codings(life_duration(exchange), number);
+    codings.swap_remove(random.below(codings.len()))
+}
+
+/// A lifetime that lasts so long.
+pub fn lasting_lifetime(random: &mut Random, exchange: u8, value: u16, number: u32) -> Item {
+    let duration = random_coding(random, exchange, number);
+    lifetime(exchange, value, duration)
+}
+
+/// Kilobytes that suit, often at or beside a limit.
+pub fn random_kilobytes(random: &mut Random, exchange: u8) -> Item {
+    let limits = [1, 2, 255, 256, 65_535, 65_536, 0x00ff_ffff, u32::MAX, 1 + random.number(31) as u32];
+    let kilobytes = random.one_of(&limits);
+    lasting_lifetime(random, exchange, KILOBYTES, kilobytes)
+}
+
+pub fn shuffle<Thing>(random: &mut Random, things: &mut [Thing]) {
+    for at in (1..things.len()).rev() {
+        things.swap(at, random.below(at + 1));
     }
 }
 
-/// What the line wants and that duration, in any order.
+/// What the line wants and these lifetimes, in any order of them as wholes.
+pub fn with_lifetimes(random: &mut Random, line: &Line, protocol: u8, lifetimes: Vec<Item>) -> Transform {
+    let wanted = line.wanted(protocol).into_iter().map(|attribute| vec![attribute]);
+    let mut items: Vec<Item> = wanted.chain(lifetimes).collect();
+    shuffle(random, &mut items);
+    transform(1, suiting_id(protocol), items.concat())
+}
+
+/// What the line wants, that duration in seconds, and in some kilobytes, in any order.
 pub fn with_duration(random: &mut Random, line: &Line, protocol: u8, duration: Attribute) -> Transform {
-    let mut attributes = line.wanted(protocol);
-    attributes.push(duration);
-    shuffle(random, &mut attributes);
-    transform(1, suiting_id(protocol), attributes)
+    let mut lifetimes = vec![lifetime(line.exchange(), SECONDS, duration)];
+    if random.once_in(3) {
+        lifetimes.push(random_kilobytes(random, line.exchange()));
+    }
+    with_lifetimes(random, line, protocol, lifetimes)
 }
 
 /// A transform that suits the line if so many seconds do, sent in any way.
 pub fn lasting(random: &mut Random, line: &Line, protocol: u8, seconds: u32) -> Transform {
-    let mut codings = codings(life_duration(line.exchange()), seconds);
-    let duration = codings.swap_remove(random.below(codings.len()));
+    let duration = random_coding(random, line.exchange(), seconds);
     with_duration(random, line, protocol, duration)
 }
 
@@ -170,47 +198,68 @@ pub type Spoil = fn(&mut Random, &Line, &mut Transform);
 
 /// Each leaves a transform readable.
 pub const SPOILS: &[(&str, Spoil)] = &[
-    ("attribute missing", |random, _, transform| {
-        transform.attributes.remove(random.below(transform.attributes.len()));
+    ("attribute or seconds missing", |random, line, transform| {
+        replace_wanted(random, line, transform, |_| Vec::new());
     }),
     ("attribute surplus", |random, line, transform| {
         let kind = unwanted(random, transform);
-        let place = random.below(transform.attributes.len() + 1);
-        transform.attributes.insert(place, random_attribute(random, line.exchange(), kind));
+        let attribute = random_attribute(random, line.exchange(), kind);
+        put_in(random, line, transform, vec![attribute]);
     }),
     ("algorithm of integrity surplus", |random, line, transform| {
         let kind = if line.protocols == AH_WITH_ESP && transform.id == 129 { 5 } else { unwanted(random, transform) };
         let value = if kind == 5 { 20 } else { 1 };
-        transform.attributes.insert(random.below(transform.attributes.len() + 1), fixed(kind, value));
+        put_in(random, line, transform, vec![fixed(kind, value)]);
     }),
     ("attribute with another value", |random, line, transform| {
         let duration = life_duration(line.exchange());
         let of_rule = |at: &usize| transform.attributes[*at].kind != duration;
         let of_rule: Vec<_> = (0..transform.attributes.len()).filter(of_rule).collect();
         let at = random.one_of(&of_rule);
-        let is_mode = line.exchange() == QUICK_MODE && transform.attributes[at].kind == 4;
-        let Value::Fixed(value) = transform.attributes[at].value else { unreachable!("a rule's value is sent fixed") };
+        let kind = transform.attributes[at].kind;
+        let is_mode = line.exchange() == QUICK_MODE && kind == 4;
+        let value = transform.attributes[at].fixed_value().expect("a rule's value is sent fixed");
         let beside = if is_mode { [0, 5] } else { [value - 1, value + 1] };
         let others = [beside[0], beside[1], 0, value + 256, value << 8, value | 0x8000, 0xffff];
+        // A life type does not become that of the other lifetime.
+        let is_there = |&value: &u16| {
+            let is = |other: &Attribute| other.kind == kind && other.fixed_value() == Some(value);
+            transform.attributes.iter().any(is)
+        };
+        let others: Vec<_> = others.into_iter().filter(|value| !is_there(value)).collect();
         transform.attributes[at].value = Value::Fixed(random.one_of(&others));
     }),
     ("attribute of another type", |random, line, transform| {
         let kind = unwanted(random, transform);
-        let at = random.below(transform.attributes.len());
-        let replaced = &mut transform.attributes[at];
-        replaced.kind = if matches!(replaced.value, Value::Fixed(_)) { kind } else { free_kind(line.exchange()) };
+        replace_wanted(random, line, transform, |item| {
+            let Attribute { value, .. } = item[item.len() - 1].clone();
+            let kind = if matches!(value, Value::Fixed(_)) { kind } else { free_kind(line.exchange()) };
+            vec![Attribute { kind, value }]
+        });
     }),
-    ("no seconds", |random, line, transform| set_seconds(random, line, transform, 0)),
+    ("no seconds", |random, line, transform| set_lifetime(random, line, transform, SECONDS, 0)),
     ("more seconds than any line has", |random, line, transform| {
         let most = line.most_seconds();
         let more = [most + 1, most + 256, most + 65_536, 0x0100_0001, 0x8000_0001, u32::MAX];
         let seconds = random.one_of(&more);
-        set_seconds(random, line, transform, seconds);
+        set_lifetime(random, line, transform, SECONDS, seconds);
     }),
     ("another ID", |random, _, transform| {
         let others = [0, 1, 2, 19, 20, 21, 128, 129, 130, 255, random.byte()];
         let others: Vec<_> = others.into_iter().filter(|&id| id != transform.id).collect();
         transform.id = random.one_of(&others);
+    }),
+    ("no kilobytes", |random, line, transform| set_lifetime(random, line, transform, KILOBYTES, 0)),
+    ("kilobytes without seconds", |random, line, transform| {
+        let kilobytes = 1 + random.number(31) as u32;
+        set_lifetime(random, line, transform, KILOBYTES, kilobytes);
+        take_out(line, transform, SECONDS);
+    }),
+    ("a third life type", |random, line, transform| {
+        let others = [0, 3, 4, 255, 256, 257, 258, 0x8001, 0x8002, 0xffff];
+        let value = random.one_of(&others);
+        let third = random_lifetime(random, line.exchange(), value);
+        put_in(random, line, transform, third);
     }),
 ];
 
@@ -224,12 +273,36 @@ fn unwanted(random: &mut Random, transform: &Transform) -> u16 {
     }
 }
 
-fn set_seconds(random: &mut Random, line: &Line, transform: &mut Transform, seconds: u32) {
-    let kind = life_duration(line.exchange());
-    let mut codings = codings(kind, seconds);
-    let coding = codings.swap_remove(random.below(codings.len()));
-    let duration = transform.attributes.iter_mut().find(|attribute| attribute.kind == kind);
-    *duration.expect("it has one") = coding;
+/// Puts an item in anywhere.
+fn put_in(random: &mut Random, line: &Line, transform: &mut Transform, item: Item) {
+    let place = random_border(random, line.exchange(), &transform.attributes);
+    transform.attributes.splice(place..place, item);
+}
+
+fn is_lifetime(line: &Line, item: &Item, value: u16) -> bool {
+    item[0].kind == life_type(line.exchange()) && item[0].fixed_value() == Some(value)
+}
+
+/// Replaces an attribute that is wanted, or the seconds.
+fn replace_wanted(random: &mut Random, line: &Line, transform: &mut Transform, replacement: impl Fn(&Item) -> Item) {
+    let mut items = items(line.exchange(), &transform.attributes);
+    let wanted: Vec<_> = (0..items.len()).filter(|&at| !is_lifetime(line, &items[at], KILOBYTES)).collect();
+    let at = random.one_of(&wanted);
+    items[at] = replacement(&items[at]);
+    transform.attributes = items.concat();
+}
+
+fn take_out(line: &Line, transform: &mut Transform, value: u16) {
+    let mut items = items(line.exchange(), &transform.attributes);
+    items.retain(|item| !is_lifetime(line, item, value));
+    transform.attributes = items.concat();
+}
+
+/// The lifetime of that life type lasts so long, whether the transform had one or not.
+fn set_lifetime(random: &mut Random, line: &Line, transform: &mut Transform, value: u16, number: u32) {
+    take_out(line, transform, value);
+    let lifetime = lasting_lifetime(random, line.exchange(), value, number);
+    put_in(random, line, transform, lifetime);
 }
 
 /// A lawful proposal of these transforms, with numbers that rise from anywhere.

@@ -10,7 +10,8 @@ use crate::message::{
     VENDOR,
 };
 use crate::offer::{
-    fixed, life_duration, Offer, Proposal, Sizes, Transform, Value, AH, ESP, MOST_PROPOSALS, MOST_TRANSFORMS, SMALL,
+    fixed, is_of_lifetime, items, life_duration, random_border, Attribute, Offer, Proposal, Sizes, Transform, AH, ESP,
+    KILOBYTES, MOST_PROPOSALS, MOST_TRANSFORMS, SMALL,
 };
 use crate::policy::{
     codings, lasting, offer_of_sets, random_book, random_line, random_seconds, set_of, spoiled, suiting, suiting_id,
@@ -119,10 +120,10 @@ fn firsts(case: &Case) -> Vec<(u8, u8)> {
 }
 
 /// What a line can be about.
-const SORTS: [&[u8]; 3] = [MAIN, ESP_ALONE, AH_WITH_ESP];
+pub const SORTS: [&[u8]; 3] = [MAIN, ESP_ALONE, AH_WITH_ESP];
 
 /// A readable message with that offer, alone or among other payloads.
-fn message_with(random: &mut Random, exchange: u8, offer: Offer) -> Message {
+pub fn message_with(random: &mut Random, exchange: u8, offer: Offer) -> Message {
     let flag = random.below(2) as u8;
     let types: &[u8] = match random.below(4) {
         0 | 1 => &[SA],
@@ -135,14 +136,14 @@ fn message_with(random: &mut Random, exchange: u8, offer: Offer) -> Message {
 }
 
 /// Where in an offer something is chosen, all counted from 0; the transforms in the order of the proposals.
-struct Place {
-    set: usize,
-    line: usize,
-    transforms: Vec<usize>,
+pub struct Place {
+    pub set: usize,
+    pub line: usize,
+    pub transforms: Vec<usize>,
 }
 
 /// A book of these lines and an offer of these sets.
-fn add(random: &mut Random, cases: &mut Cases, lines: &[Line], sets: Vec<Set>, place: Option<Place>) {
+pub fn add(random: &mut Random, cases: &mut Cases, lines: &[Line], sets: Vec<Set>, place: Option<Place>) {
     let exchange = if sets[0][0].0 == MAIN[0] { MAIN_MODE } else { QUICK_MODE };
     let before = |place: &Place| sets[..place.set].iter().map(Vec::len).sum::<usize>();
     let first = place.as_ref().map_or(0, before);
@@ -159,13 +160,13 @@ fn add(random: &mut Random, cases: &mut Cases, lines: &[Line], sets: Vec<Set>, p
 }
 
 /// One set and one line.
-fn add_one(random: &mut Random, cases: &mut Cases, line: Line, set: Set, suits: bool) {
+pub fn add_one(random: &mut Random, cases: &mut Cases, line: Line, set: Set, suits: bool) {
     let place = suits.then(|| Place { set: 0, line: 0, transforms: vec![0; set.len()] });
     add(random, cases, &[line], vec![set], place);
 }
 
 /// A set that suits the line, with one proposal of it to be changed.
-fn set_to_change(random: &mut Random, line: &Line) -> (Set, usize) {
+pub fn set_to_change(random: &mut Random, line: &Line) -> (Set, usize) {
     let set = set_of(random, line, suiting);
     let at = random.below(set.len());
     (set, at)
@@ -214,7 +215,8 @@ fn transforms_beside_the_line(random: &mut Random, cases: &mut Cases) {
     }
 }
 
-/// Every attribute of a suiting transform by itself. A doubled one makes the offer unreadable.
+/// Every attribute of a suiting transform by itself. A doubled one makes the offer unreadable, as does half a lifetime; the
+/// kilobytes may be missing as a whole.
 fn each_attribute(random: &mut Random, cases: &mut Cases) {
     for protocols in SORTS {
         for _ in 0..30 {
@@ -223,31 +225,62 @@ fn each_attribute(random: &mut Random, cases: &mut Cases) {
             let count = |set: &Set, at: usize| set[at].1[0].attributes.len();
             for (at, attribute) in (0..set.len()).flat_map(|at| (0..count(&set, at)).map(move |each| (at, each))) {
                 let mut missing = set.clone();
-                missing[at].1[0].attributes.remove(attribute);
-                add_one(random, cases, line, missing, false);
+                let removed = missing[at].1[0].attributes.remove(attribute);
+                if is_of_lifetime(line.exchange(), removed.kind) {
+                    add_unreadable(random, cases, line, missing);
+                } else {
+                    add_one(random, cases, line, missing, false);
+                }
 
                 let mut doubled = set.clone();
                 let copy = doubled[at].1[0].attributes[attribute].clone();
                 let place = random.below(count(&set, at) + 1);
                 doubled[at].1[0].attributes.insert(place, copy);
-                let offer = offer_of_sets(random, vec![doubled]);
-                let message = message_with(random, line.exchange(), offer).encode();
-                cases.choose(&Book::of(random, &[line]).encode(), &message, Some(refused(15)));
+                add_unreadable(random, cases, line, doubled);
 
-                let kind = set[at].1[0].attributes[attribute].kind;
-                if kind == life_duration(line.exchange()) {
-                    continue;
-                }
-                let right =
-                    line.wanted(set[at].0).into_iter().find(|wanted| wanted.kind == kind).expect("it is wanted");
-                for value in [0, 1, 2, 3, 4, 5, 6, 10, 19, 20, 21, 128, 129, 130, 256, 257, 0x1400, 0x8001, 0xffff] {
-                    let suits = matches!(right.value, Value::Fixed(right) if right == value);
-                    let mut changed = set.clone();
-                    changed[at].1[0].attributes[attribute] = fixed(kind, value);
-                    add_one(random, cases, line, changed, suits);
-                }
+                other_values(random, cases, line, &set, at, attribute);
+            }
+            for at in 0..set.len() {
+                lifetimes_missing(random, cases, line, &set, at);
             }
         }
+    }
+}
+
+/// One line and one set that breaks the rule on what may stand where.
+pub fn add_unreadable(random: &mut Random, cases: &mut Cases, line: Line, set: Set) {
+    let offer = offer_of_sets(random, vec![set]);
+    let message = message_with(random, line.exchange(), offer).encode();
+    cases.choose(&Book::of(random, &[line]).encode(), &message, Some(refused(15)));
+}
+
+fn other_values(random: &mut Random, cases: &mut Cases, line: Line, set: &Set, at: usize, attribute: usize) {
+    let attributes = &set[at].1[0].attributes;
+    let kind = attributes[attribute].kind;
+    if kind == life_duration(line.exchange()) {
+        return;
+    }
+    let right = attributes[attribute].fixed_value();
+    for value in [0, 1, 2, 3, 4, 5, 6, 10, 19, 20, 21, 128, 129, 130, 256, 257, 0x1400, 0x8001, 0xffff] {
+        let mut changed = set.clone();
+        changed[at].1[0].attributes[attribute] = fixed(kind, value);
+        let is_there = |other: &Attribute| other.kind == kind && other.fixed_value() == Some(value);
+        if Some(value) != right && attributes.iter().any(is_there) {
+            add_unreadable(random, cases, line, changed);
+        } else {
+            add_one(random, cases, line, changed, Some(value) == right);
+        }
+    }
+}
+
+fn lifetimes_missing(random: &mut Random, cases: &mut Cases, line: Line, set: &Set, at: usize) {
+    let whole = items(line.exchange(), &set[at].1[0].attributes);
+    for lifetime in (0..whole.len()).filter(|&item| whole[item].len() == 2) {
+        let mut left = whole.clone();
+        let is_kilobytes = left.remove(lifetime)[0].fixed_value() == Some(KILOBYTES);
+        let mut missing = set.clone();
+        missing[at].1[0].attributes = left.concat();
+        add_one(random, cases, line, missing, is_kilobytes);
     }
 }
 
@@ -259,7 +292,7 @@ fn every_surplus(random: &mut Random, cases: &mut Cases) {
             let attributes = &mut set[at].1[0].attributes;
             if attributes.iter().all(|attribute| attribute.kind != kind) {
                 let value = random.one_of(&[0, 1, 20, 129]);
-                attributes.insert(random.below(attributes.len() + 1), fixed(kind, value));
+                attributes.insert(random_border(random, line.exchange(), attributes), fixed(kind, value));
                 add_one(random, cases, line, set, false);
             }
         }
@@ -360,7 +393,7 @@ fn sets_in_every_order(random: &mut Random, cases: &mut Cases) {
 }
 
 /// Every order of so many items.
-fn orders(count: usize) -> Vec<Vec<usize>> {
+pub fn orders(count: usize) -> Vec<Vec<usize>> {
     if count == 0 {
         return vec![Vec::new()];
     }

@@ -14,8 +14,10 @@ use crate::message::{
     message_of, opaque, random_payload, sa, Message, HASH, IDENTITY, INFORMATIONAL, MAIN_MODE, NAT_OA, NONCE, NOTICE,
     QUICK_MODE, SA, VENDOR,
 };
-use crate::offer::{fixed, proposal_of, transform, variable, Proposal, Value, AH, ESP, ISAKMP, SMALL};
-use crate::policy::{random_line, Book, AH_WITH_ESP, ESP_ALONE};
+use crate::offer::{
+    fixed, items, proposal_of, random_border, transform, variable, Proposal, Value, AH, ESP, ISAKMP, SMALL,
+};
+use crate::policy::{random_kilobytes, random_line, Book, AH_WITH_ESP, ESP_ALONE};
 use crate::random::Random;
 use Role::{Initiator, Responder};
 
@@ -355,16 +357,26 @@ const SPOILED_ANSWERS: &[(&str, Spoil)] = &[
     }),
     ("attributes in another order", |random, set| {
         let attributes = &mut set[random.below(2)].transforms[0].attributes;
-        let at = random.below(attributes.len() - 1);
-        attributes.swap(at, at + 1);
+        let mut items = items(QUICK_MODE, attributes);
+        let at = random.below(items.len() - 1);
+        items.swap(at, at + 1);
+        *attributes = items.concat();
     }),
-    ("attribute missing", |random, set| {
+    ("attribute or lifetime missing", |random, set| {
         let attributes = &mut set[random.below(2)].transforms[0].attributes;
-        attributes.remove(random.below(attributes.len()));
+        let mut items = items(QUICK_MODE, attributes);
+        items.remove(random.below(items.len()));
+        *attributes = items.concat();
     }),
     ("attribute surplus", |random, set| {
         let attributes = &mut set[random.below(2)].transforms[0].attributes;
-        attributes.insert(random.below(attributes.len() + 1), fixed(random.one_of(&[9, 3, 6]), 1));
+        let place = random_border(random, QUICK_MODE, attributes);
+        attributes.insert(place, fixed(random.one_of(&[9, 3, 6]), 1));
+    }),
+    ("kilobytes surplus", |random, set| {
+        let attributes = &mut set[random.below(2)].transforms[0].attributes;
+        let place = random_border(random, QUICK_MODE, attributes);
+        attributes.splice(place..place, random_kilobytes(random, QUICK_MODE));
     }),
     ("duration sent otherwise", |random, set| {
         let attributes = &mut set[random.below(2)].transforms[0].attributes;

@@ -6,9 +6,9 @@ use crate::checks::{Check, CHECKS};
 use crate::layout::Length;
 use crate::message::{message_of, Body, Message, HASH, MAIN_MODE, NONCE, QUICK_MODE, SA, VENDOR};
 use crate::offer::{
-    fixed, free_kind, is_fixed, life_duration, offer_of, random_attribute, random_attributes, random_proposal,
-    random_transforms, transform, variable, Attribute, Offer, Sizes, Transform, Value, AH, ESP, ISAKMP,
-    MOST_ATTRIBUTES, MOST_PROPOSALS, MOST_TRANSFORMS, SMALL,
+    fixed, free_kind, is_fixed, is_of_lifetime, life_duration, life_type, lifetime, offer_of, random_attribute,
+    random_attributes, random_proposal, random_transforms, transform, variable, Attribute, Offer, Sizes, Transform,
+    Value, AH, ESP, ISAKMP, MOST_ATTRIBUTES, MOST_PROPOSALS, MOST_TRANSFORMS, SECONDS, SMALL,
 };
 use crate::random::Random;
 
@@ -448,7 +448,7 @@ fn transform_reserved(random: &mut Random, cases: &mut Cases) {
 /// Under 8; and one byte more or less than there is.
 fn transform_lengths(random: &mut Random, cases: &mut Cases) {
     every_offer(random, 6, |random, exchange, offer| {
-        let attributes = vec![random_attribute(random, exchange, 1)];
+        let attributes = vec![random_attribute(random, exchange, 4)];
         let transforms = vec![transform(1, 1, attributes.clone()), transform(2, 1, attributes)];
         for length in (0..8).map(Length::Is).chain([Length::Less(1), Length::More(1), Length::PastEnd(1)]) {
             for at in 0..2 {
@@ -480,7 +480,7 @@ fn transform_numbers(random: &mut Random, cases: &mut Cases) {
             for second in NUMBERS {
                 for third in NUMBERS {
                     let numbers = [first, second, third];
-                    let transforms = numbers.map(|number| transform(number, 1, vec![fixed(1, 1)])).to_vec();
+                    let transforms = numbers.map(|number| transform(number, 1, vec![fixed(4, 1)])).to_vec();
                     let lawful = first < second && second < third;
                     add(random, cases, exchange, with_transforms(&offer, transforms), lawful, 15);
                 }
@@ -512,8 +512,9 @@ fn attribute_length_and_end(random: &mut Random, cases: &mut Cases) {
         add(random, cases, exchange, with_transforms(&offer, reaching), false, 15);
         // A life duration with a byte too many is out of bounds first.
         let value = Value::Variable(Length::More(1), vec![0; 4]);
-        let duration = transform(1, 1, vec![Attribute { kind: life_duration(exchange), value }]);
-        add(random, cases, exchange, with_transforms(&offer, vec![duration, behind.clone()]), false, 15);
+        let duration = Attribute { kind: life_duration(exchange), value };
+        let lasting = transform(1, 1, lifetime(exchange, SECONDS, duration));
+        add(random, cases, exchange, with_transforms(&offer, vec![lasting, behind.clone()]), false, 15);
         let within = transform(1, 1, vec![variable(free_kind(exchange), vec![7, 7])]);
         add(random, cases, exchange, with_transforms(&offer, vec![within, behind]), true, 15);
     });
@@ -524,23 +525,24 @@ fn numbers_of_attributes(random: &mut Random, cases: &mut Cases) {
         every_offer(random, 9, |random, exchange, offer| {
             let attributes = random_attributes(random, exchange, count);
             let lawful = count <= MOST_ATTRIBUTES;
-            add(random, cases, exchange, with_attributes(&offer, attributes.clone()), lawful, 15);
+            add(random, cases, exchange, with_attributes(&offer, attributes), lawful, 15);
             // The last one is coded wrongly.
             let fault = random_wrongly_coded(random, exchange);
-            let mut others = attributes;
-            others.retain(|other| other.kind != fault.kind);
-            if others.len() == count && count > 0 {
-                others[count - 1] = fault;
+            let mut others = random_attributes(random, exchange, count.saturating_sub(1));
+            if count > 0 && others.iter().all(|other| other.kind != fault.kind) {
+                others.push(fault);
                 add(random, cases, exchange, with_attributes(&offer, others), false, if lawful { 13 } else { 15 });
             }
         });
     }
 }
 
-/// In one transform, sent in either way at any two places; in two transforms it is lawful.
+/// In one transform, sent in either way at any two places; in two transforms it is lawful. The life type and duration of
+/// each exchange are nothing in particular in the other.
 fn types_twice(random: &mut Random, cases: &mut Cases) {
     every_offer(random, 3, |random, exchange, offer| {
-        for kind in [0, 1, 2, 5, 6, 9, 12, 14, 20, 300, 0x7fff] {
+        let kinds = [0, 1, 2, 5, 6, 9, 11, 12, 14, 20, 300, 0x7ffe, 0x7fff];
+        for kind in kinds.into_iter().filter(|&kind| !is_of_lifetime(exchange, kind)) {
             for (first, second) in [(0, 1), (0, 5), (3, 4), (2, 15), (14, 15)] {
                 let mut attributes: Vec<_> = (0..16).map(|place| fixed(1_000 + place, place)).collect();
                 attributes[first] = random_attribute(random, exchange, kind);
@@ -557,12 +559,18 @@ fn types_twice(random: &mut Random, cases: &mut Cases) {
     });
 }
 
+/// Those of a lifetime with the other one beside them.
 fn every_attribute_type(random: &mut Random, cases: &mut Cases) {
     let kinds = (0..=64).chain([127, 128, 255, 256, 257, 0x1001, 0x2001, 0x4001, 0x4002, 0x4014, 0x7ffe, 0x7fff]);
     for kind in kinds {
         every_offer(random, 6, |random, exchange, offer| {
-            add(random, cases, exchange, with_attributes(&offer, vec![fixed(kind, 1)]), true, 13);
-            let sent_variable = vec![variable(kind, vec![0, 1])];
+            let whole = |attribute: Attribute| match kind {
+                kind if kind == life_type(exchange) => vec![attribute, fixed(life_duration(exchange), 1)],
+                kind if kind == life_duration(exchange) => lifetime(exchange, SECONDS, attribute),
+                _ => vec![attribute],
+            };
+            add(random, cases, exchange, with_attributes(&offer, whole(fixed(kind, 1))), true, 13);
+            let sent_variable = whole(variable(kind, vec![0, 1]));
             let lawful = !is_fixed(exchange, kind);
             add(random, cases, exchange, with_attributes(&offer, sent_variable), lawful, 13);
         });
@@ -574,7 +582,8 @@ fn life_durations(random: &mut Random, cases: &mut Cases) {
     for size in 0..=9 {
         every_offer(random, 9, |random, exchange, offer| {
             let duration = variable(life_duration(exchange), random.bytes(size));
-            add(random, cases, exchange, with_attributes(&offer, vec![duration]), (1..=4).contains(&size), 13);
+            let lasting = lifetime(exchange, SECONDS, duration);
+            add(random, cases, exchange, with_attributes(&offer, lasting), (1..=4).contains(&size), 13);
             let other_exchange = if exchange == MAIN_MODE { QUICK_MODE } else { MAIN_MODE };
             let other = variable(life_duration(other_exchange), random.bytes(size));
             add(random, cases, exchange, with_attributes(&offer, vec![other]), exchange == QUICK_MODE, 13);
@@ -627,7 +636,7 @@ fn earlier_proposals(random: &mut Random, cases: &mut Cases) {
 }
 
 fn earlier_transforms(random: &mut Random, cases: &mut Cases) {
-    let checks = checks_from("transform's reserved byte", "life duration's size");
+    let checks = checks_from("transform's reserved byte", "life type last");
     let split = |offer: &mut Offer| {
         let mut back = offer.clone();
         back.last_transform().number += 50;
@@ -642,7 +651,7 @@ fn earlier_transforms(random: &mut Random, cases: &mut Cases) {
     }
 }
 
-/// An attribute that is out of bounds leaves none behind it.
+/// An attribute that is out of bounds leaves none behind it, and a life type is not last if there is one.
 fn earlier_attributes(random: &mut Random, cases: &mut Cases) {
     let checks = checks_from("attribute's type twice", "life duration's size");
     let split = |offer: &mut Offer| offer.clone();

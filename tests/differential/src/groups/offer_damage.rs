@@ -5,7 +5,7 @@ use crate::cases::Cases;
 use crate::damage::{limits, replaced, with_field, MENDINGS};
 use crate::layout::{Layout, Length, Span};
 use crate::message::{message_of, Message, Rest, HASH, MAIN_MODE, NONCE, QUICK_MODE, SA};
-use crate::offer::{offer_of, Offer, Sizes, Value};
+use crate::offer::{items, offer_of, Offer, Sizes, Value};
 use crate::random::Random;
 
 pub const GROUP: Group = Group {
@@ -131,13 +131,15 @@ fn items_moved(random: &mut Random, cases: &mut Cases) {
     for message in messages(random, 3_000) {
         let mut message = padded(&message);
         for _ in 0..random.between(1, 2) {
-            move_items(random, message.offer().expect("it has one"));
+            let exchange = message.exchange;
+            move_items(random, exchange, message.offer().expect("it has one"));
         }
         cases.read(&message.encode(), None);
     }
 }
 
-fn move_items(random: &mut Random, offer: &mut Offer) {
+/// Attributes are moved with what belongs to them, and in some cases without it.
+fn move_items(random: &mut Random, exchange: u8, offer: &mut Offer) {
     if offer.proposals.is_empty() || random.once_in(3) {
         return move_one(random, &mut offer.proposals);
     }
@@ -149,7 +151,13 @@ fn move_items(random: &mut Random, offer: &mut Offer) {
     let at = random.below(transforms.len());
     let attributes = &mut transforms[at].attributes;
     if attributes.is_empty() || random.once_in(2) {
-        return move_one(random, attributes);
+        let mut items = items(exchange, attributes);
+        if random.once_in(4) {
+            items = attributes.chunks(1).map(<[_]>::to_vec).collect();
+        }
+        move_one(random, &mut items);
+        *attributes = items.concat();
+        return;
     }
     let at = random.below(attributes.len());
     attributes[at].value = match &attributes[at].value {
