@@ -13,7 +13,8 @@ const NAMED: &[(&str, &str)] = &[
     ("message.rs", "bytes.iter().«all→any»("),
     ("message.rs", "payloads.«iter().any→last().is_some_and»(|before| before.kind == SA)"),
     ("offer.rs", "«before.contains(&this)→(before.last() == Some(&this))»"),
-    ("offer.rs", "«kinds.contains(&kind)→(kinds.last() == Some(&kind))»"),
+    ("offer.rs", "«before.iter().any→before.last().is_some_and»(is_repeated)"),
+    ("offer.rs", "«other.digits() == this.digits()→other.number() as u32 == this.number() as u32»"),
     ("offer.rs", "more_proposals: «false→true»"),
     ("offer.rs", "more_proposals: «true→false»"),
     ("offer.rs", "protocols: &[«AH, ESP→AH»]"),
@@ -22,6 +23,8 @@ const NAMED: &[(&str, &str)] = &[
     ("offer.rs", "protocols: &[«ISAKMP→ISAKMP, AH»]"),
     ("policy.rs", "transforms()«.find(|transform| line.suits(protocol, transform))\
                    →.filter(|transform| line.suits(protocol, transform)).last()»"),
+    ("policy.rs", "singles.iter().«all→any»("),
+    ("policy.rs", "lifetimes.iter().«all→any»(lasts)"),
     ("policy.rs", "«MODES→(0..=5)».contains(&bytes[1])"),
     ("policy.rs", "«MAIN_SECONDS.contains(&seconds).then_some(Line::Main { seconds })→Some(Line::Main { seconds })»"),
     ("policy.rs", "proposals«.chunk_by(|one, next| one.number == next.number)→.chunks(1)»"),
