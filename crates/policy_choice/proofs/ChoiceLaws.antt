@@ -27,8 +27,8 @@ use Rattle.message_chain.proofs.Laws.{reading-found, read-as}
 use Rattle.policy_lines.specs.Lines.{lineAt}
 use Rattle.policy_lines.specs.declared.LineNumber.{LineNumber}
 use Rattle.policy_suits.specs.Suits.{lowest}
-use Rattle.policy_suits.proofs.Laws.{Passes, Passed, suits-passed}
-use Rattle.policy_suits.proofs.SuitLaws.{chosenIn, taken}
+use Rattle.policy_suiting.proofs.Laws.{Passes, Passed, suits-passed}
+use Rattle.policy_suiting.proofs.SuitLaws.{chosenIn, taken}
 use Rattle.policy_book.specs.Book.{bookRead}
 use Rattle.policy_book.specs.declared.Book.{Book}
 use Rattle.policy_book.specs.declared.Book.the-variants as books

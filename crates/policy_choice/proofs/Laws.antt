@@ -14,9 +14,9 @@ use Rattle.sa_sets.proofs.Places.{set-lawful}
 use Rattle.policy_lines.specs.Lines.{lineAt}
 use Rattle.policy_lines.specs.declared.LineNumber.{LineNumber}
 use Rattle.policy_suits.specs.Suits.{setSuits}
-use Rattle.policy_suits.specs.Suiting.{Suits}
-use Rattle.policy_suits.proofs.Laws.{First, none, here, firstFrom, first-from}
-use Rattle.policy_suits.proofs.SuitingLaws.{suits-says, says-suits}
+use Rattle.policy_suiting.specs.Suiting.{Suits}
+use Rattle.policy_suiting.proofs.Laws.{First, none, here, firstFrom, first-from}
+use Rattle.policy_suiting.proofs.SuitingLaws.{suits-says, says-suits}
 use Rattle.policy_choice.specs.Choice.{lineCount, lineFrom, firstLine, chosen, setFrom, chooseFrom, NoneSuits}
 use Rattle.policy_choice.specs.declared.Choice.{Choice}
 use Rattle.policy_choice.specs.declared.Choice.the-variants.{Refused}

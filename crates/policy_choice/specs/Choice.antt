@@ -20,7 +20,7 @@ use Rattle.policy_book.specs.Book.{bookRead}
 use Rattle.policy_book.specs.declared.Book.{Book}
 use Rattle.policy_book.specs.declared.Book.the-variants as books
 use Rattle.policy_suits.specs.Suits.{lowest, setSuits}
-use Rattle.policy_suits.specs.Suiting.{Suits}
+use Rattle.policy_suiting.specs.Suiting.{Suits}
 use Rattle.policy_choice.specs.declared.Transforms.{Transforms}
 use Rattle.policy_choice.specs.declared.Transforms.the-variants.{One, Two}
 use Rattle.policy_choice.specs.declared.Choice.{Choice}

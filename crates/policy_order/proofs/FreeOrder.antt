@@ -21,7 +21,7 @@ use Rattle.sa_coding.specs.Wholes as Wholes
 use Rattle.sa_coding.proofs.Wholes.{reads-orderly, orderly-reads, orderly-wholes, alike-same}
 use Rattle.sa_transforms.specs.Transforms.{nextWanted, transformWrong, transformCode}
 use Rattle.sa_transforms.proofs.Laws.{LawfulTransform}
-use Rattle.policy_suits.specs.Suiting.{Offered, PutIn, in-front, behind, Exactly, nothing, one-more, told, offeredList, Matches, TransformSuits, main, quick}
+use Rattle.policy_suiting.specs.Suiting.{Offered, PutIn, in-front, behind, Exactly, nothing, one-more, told, offeredList, Matches, TransformSuits, main, quick}
 
 -- ---- lists that have exactly the same
 

@@ -1,9 +1,2 @@
-pub mod Laws
-pub mod SuitLaws
-pub mod SuitingLaws
-mod Exactly
-mod AttributeList
-mod Offers
-mod TransformLaws
 pub mod Found
 mod SuitWays

@@ -1,2 +1,1 @@
 pub mod Suits
-pub mod Suiting

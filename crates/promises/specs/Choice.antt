@@ -1,5 +1,5 @@
 -- Demand 2, the choice: "'No proposal chosen' answers a readable offer exactly when no offered set suits any policy line", and what is chosen
--- is the first set, the first line that it suits, and the lowest transform in each proposal. "Suits" is the record Suits of policy_suits, which
+-- is the first set, the first line that it suits, and the lowest transform in each proposal. "Suits" is the record Suits of policy_suiting, which
 -- says document 01's sentence over lists and with no search in it. Shut out: the core that always answers 14, and the one that takes a set's
 -- proposals as alternatives.
 use Prim.Native.Nat.{ℕ, zero, suc, _+_, _-_, _<_}
@@ -25,7 +25,7 @@ use Rattle.sa_items.specs.Items.{proposal, proposalCount}
 use Rattle.policy_lines.specs.Lines.{lineAt}
 use Rattle.policy_book.specs.Book.{bookRead, bookAnswer}
 use Rattle.policy_suits.specs.Suits.{lowest, setSuits}
-use Rattle.policy_suits.specs.Suiting.{Suits, LowestSuiting}
+use Rattle.policy_suiting.specs.Suiting.{Suits, LowestSuiting}
 use Rattle.policy_choice.specs.Choice.{lineCount, numberOf, transformsOf, chosen, chooseFrom, saFrom, messageChoice, bookChoice, choice, choiceAnswer, NoneSuits}
 use Rattle.policy_reply.specs.Reply.{replyAnswer}
 use Rattle.policy_book.specs.declared.Book.{Book}
@@ -37,9 +37,9 @@ use Rattle.policy_reply.specs.declared.Outcome.{Outcome}
 use Rattle.policy_reply.specs.declared.Outcome.the-variants as replies
 use Rattle.promises.specs.SequenceAnswers.{parts}
 use Rattle.promises.specs.Payloads as payloads
-use Rattle.policy_suits.proofs.Laws.{suits-passed}
-use Rattle.policy_suits.proofs.SuitLaws.{shape}
-use Rattle.policy_suits.proofs.SuitingLaws.{suits-says, lowest-says}
+use Rattle.policy_suiting.proofs.Laws.{suits-passed}
+use Rattle.policy_suiting.proofs.SuitLaws.{shape}
+use Rattle.policy_suiting.proofs.SuitingLaws.{suits-says, lowest-says}
 use Rattle.policy_choice.proofs.Laws.{Choosing, fourteen, chose, no-suit, fourteen-none, none-fourteen, choosing}
 use Rattle.policy_choice.proofs.ChoiceLaws.{sa-reads}
 

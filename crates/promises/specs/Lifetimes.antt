@@ -1,6 +1,6 @@
 -- Two lifetimes in one offer, in the words of document 02, "Two": "each duration must directly follow its life type and no life type stands
 -- without one, each life type value occurs at most once .. free order holds for pairs as wholes". It is said of each transform of an offer that
--- reads; "suits" is TransformSuits of policy_suits. Shut out: the core that matches durations and life types by counting them, and the one that
+-- reads; "suits" is TransformSuits of policy_suiting. Shut out: the core that matches durations and life types by counting them, and the one that
 -- wants the seconds first.
 use Prim.Native.Nat.{ℕ, _+_, _<_}
 use mathlib.Core.Path.{_≡_, refl}
@@ -24,8 +24,8 @@ use Rattle.sa_items.specs.Items.{proposal, proposalCount, transform}
 use Rattle.sa_items.proofs.Laws.{transform-lawful}
 use Rattle.sa_sets.specs.Sets.{set, setCount}
 use Rattle.sa_sets.proofs.Places.{set-lawful}
-use Rattle.policy_suits.specs.Suiting.{Exactly, TransformSuits}
-use Rattle.policy_suits.proofs.SuitLaws.{Known, isakmp, ah-of, esp-of, known-of}
+use Rattle.policy_suiting.specs.Suiting.{Exactly, TransformSuits}
+use Rattle.policy_suiting.proofs.SuitLaws.{Known, isakmp, ah-of, esp-of, known-of}
 use Rattle.policy_order.proofs.FreeOrder as order
 
 -- what begins at attribute j of a transform's attributes s, counted from 0, and its type

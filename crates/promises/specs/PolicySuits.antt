@@ -21,7 +21,7 @@ use Rattle.sa_sets.specs.Sets.{set, setCount}
 use Rattle.policy_lines.specs.Lines.{mainCount, quickCount, bookSize}
 use Rattle.policy_book.specs.Book.{bookInFront, bookRead, bookAnswer}
 use Rattle.policy_book.specs.declared.Book.the-variants as books
-use Rattle.policy_suits.specs.Suiting.{Suits}
+use Rattle.policy_suiting.specs.Suiting.{Suits}
 use Rattle.policy_choice.specs.Choice.{lineCount, chooseFrom, bodyAt, saFrom, choice, choiceAnswer, NoneSuits}
 use Rattle.policy_choice.specs.declared.Choice.{Choice}
 use Rattle.policy_choice.specs.declared.Choice.the-variants as choices

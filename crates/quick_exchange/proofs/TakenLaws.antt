@@ -32,10 +32,10 @@ use Rattle.policy_choice.specs.declared.Transforms.{Transforms}
 use Rattle.policy_choice.specs.declared.Transforms.the-variants.{One, Two}
 use Rattle.policy_choice.specs.declared.Choice.{Choice}
 use Rattle.policy_choice.specs.declared.Choice.the-variants.{Chosen}
-use Rattle.policy_suits.proofs.Laws.{Passed, suits-passed}
+use Rattle.policy_suiting.proofs.Laws.{Passed, suits-passed}
 use Rattle.policy_choice.proofs.Laws.{Choosing, fourteen, chose, choosing}
 use Rattle.policy_choice.proofs.ChoiceLaws.{taken-by-number}
-use Rattle.policy_suits.proofs.SuitLaws.{Known, isakmp, ah-of, esp-of, known-of, chosenIn, taken}
+use Rattle.policy_suiting.proofs.SuitLaws.{Known, isakmp, ah-of, esp-of, known-of, chosenIn, taken}
 use Rattle.policy_reply.proofs.ReplyLaws.{Repeats, reply-repeats, reply-short}
 use Rattle.quick_write.specs.Messages.{bookOf, offerOf, proposalsOf, longer, messageOne, messageTwo, lines}
 use Rattle.quick_shape.specs.Shapes.{alike, shapeOf}

@@ -15,12 +15,12 @@ use Rattle.sa_transforms.proofs.Laws.{LawfulTransform}
 use Rattle.sa_proposals.proofs.Laws.{Item}
 use Rattle.sa_items.specs.Items.{firstItem, afterItem, proposal, proposalCount, transform}
 use Rattle.sa_items.proofs.Laws.{transform-lawful, numbers-rise}
 use Rattle.policy_suits.specs.Suits.{suitsLine, transformSuits, lowest, protocolsAlone, protocolsBoth, protocolsSuit, setSuits}
-use Rattle.policy_suits.specs.Suiting.{protocolList, in-front, behind, Exactly, nothing, one-more, TransformSuits, main, quick, lineProtocols, Suits, LowestSuiting}
-use Rattle.policy_suits.proofs.Laws.{First, none, here, lowest-is, Passes, transform-low, suits-passed, passed-suits}
-use Rattle.policy_suits.proofs.Exactly.{listed-count, listed-at, exactly-length}
-use Rattle.policy_suits.proofs.TransformLaws.{main-says, says-main, quick-says, says-quick}
-use Rattle.policy_suits.proofs.SuitLaws.{Known, isakmp, ah-of, esp-of, known-of}
+use Rattle.policy_suiting.specs.Suiting.{protocolList, in-front, behind, Exactly, nothing, one-more, TransformSuits, main, quick, lineProtocols, Suits, LowestSuiting}
+use Rattle.policy_suiting.proofs.Laws.{First, none, here, lowest-is, Passes, transform-low, suits-passed, passed-suits}
+use Rattle.policy_suiting.proofs.Exactly.{listed-count, listed-at, exactly-length}
+use Rattle.policy_suiting.proofs.TransformLaws.{main-says, says-main, quick-says, says-quick}
+use Rattle.policy_suiting.proofs.SuitLaws.{Known, isakmp, ah-of, esp-of, known-of}
 
 -- ---- transforms
 

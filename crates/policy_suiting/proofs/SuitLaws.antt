@@ -17,9 +17,9 @@ use Rattle.sa_fields.specs.Fields.{protocol, transformCount}
 use Rattle.sa_items.specs.Items.{proposal, proposalCount, transform}
 use Rattle.sa_items.proofs.Laws.{transform-lawful}
 use Rattle.policy_lines.specs.Lines.{quickProtocols}
 use Rattle.policy_suits.specs.Suits.{suitsLine, transformSuits, lowest, protocolsAlone, protocolsBoth, protocolsSuit}
-use Rattle.policy_suits.proofs.Laws.{First, none, here, lowest-is, Passes, transform-low}
-use Rattle.policy_suits.proofs.TransformLaws.{main-short, quick-short}
+use Rattle.policy_suiting.proofs.Laws.{First, none, here, lowest-is, Passes, transform-low}
+use Rattle.policy_suiting.proofs.TransformLaws.{main-short, quick-short}
 
 -- the exchanges and their protocols
 pub data Known : ℕ → ℕ → Type 0 where

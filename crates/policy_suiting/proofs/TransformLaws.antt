@@ -13,11 +13,11 @@ use Rattle.sa_coding.specs.Coding.{mustBeFixed, isDuration, isLifeType}
 use Rattle.sa_coding.proofs.Wholes.{Reads, reads-orderly}
 use Rattle.sa_fields.specs.Fields.{transformId, attributesOf}
 use Rattle.sa_transforms.proofs.Laws.{LawfulTransform}
 use Rattle.policy_suits.specs.Suits.{valueIs, secondsWithin, kilobytesSome, nothingSurplus, mainValues, mainSuits, quickId, quickAuthentication, quickSuits}
-use Rattle.policy_suits.specs.Suiting.{Offered, single, lifetime, offeredList, in-front, behind, seconds, kilobytes, mainAttributes, quickAttributes, IfPresent, absent, at-least-one, Matches}
-use Rattle.policy_suits.proofs.Exactly.{Within, none-within, sum, exactly-sum, exactly-wanted, AllWithin, no-more, and-also, all-both, within-behind, sum-both, sameKind, noneOf, apart, gathered}
-use Rattle.policy_suits.proofs.AttributeList.{LifeType, main-life, quick-life, weight, weight-some, room, AllFixed}
-use Rattle.policy_suits.proofs.Offers.{Plain, room-in, value-says, seconds-say, kilobytes-say, says-value, says-seconds, says-kilobytes}
+use Rattle.policy_suiting.specs.Suiting.{Offered, single, lifetime, offeredList, in-front, behind, seconds, kilobytes, mainAttributes, quickAttributes, IfPresent, absent, at-least-one, Matches}
+use Rattle.policy_suiting.proofs.Exactly.{Within, none-within, sum, exactly-sum, exactly-wanted, AllWithin, no-more, and-also, all-both, within-behind, sum-both, sameKind, noneOf, apart, gathered}
+use Rattle.policy_suiting.proofs.AttributeList.{LifeType, main-life, quick-life, weight, weight-some, room, AllFixed}
+use Rattle.policy_suiting.proofs.Offers.{Plain, room-in, value-says, seconds-say, kilobytes-say, says-value, says-seconds, says-kilobytes}
 
 -- ---- what is wanted
 

@@ -1,6 +1,6 @@
 -- What "suits" says, document 01, "Policy book and choice", with document 02, "Two lifetimes in one offer": over the list of what a transform
--- offers and the list of a set's protocols, with no search in it. Promises speak in these words. Suits.antt says the same as the code looks for
--- it; proofs/SuitingLaws.antt shows that the two agree.
+-- offers and the list of a set's protocols, with no search in it. Promises speak in these words. Suits.antt of policy_suits says the same as the
+-- code looks for it; proofs/SuitingLaws.antt shows that the two agree.
 use Prim.Native.Nat.{ℕ, zero, suc, _≤_, _<_}
 use mathlib.Core.Path.{_≡_}
 use mathlib.Core.List.{List, [], _∷_, _++_, map}

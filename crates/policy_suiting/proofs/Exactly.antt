@@ -11,7 +11,7 @@ use lib.Dec.{eqb}
 use borrow.Author.Tests.{eqb-true, eq-eqb, not-true}
 use Rattle.wire_read.specs.Parts.{skip, parts}
 use Rattle.wire_read.proofs.Tests.{clash, both, by-test}
-use Rattle.policy_suits.specs.Suiting.{listed, Offered, single, lifetime, PutIn, in-front, behind, Exactly, nothing, one-more}
+use Rattle.policy_suiting.specs.Suiting.{listed, Offered, single, lifetime, PutIn, in-front, behind, Exactly, nothing, one-more}
 
 -- ---- lists of parts
 

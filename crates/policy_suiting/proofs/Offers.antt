@@ -14,10 +14,10 @@ use Rattle.sa_attribute.specs.Attributes.{afterAttribute, find, attribute, attr
 use Rattle.sa_coding.specs.Coding.{isDuration, isLifeType}
 use Rattle.sa_coding.specs.Wholes.{wholes}
 use Rattle.sa_coding.proofs.Wholes.{Reads}
 use Rattle.policy_suits.specs.Suits.{present, valueIs, findDuration, secondsOf, kilobytesOf, secondsWithin, hasKilobytes, kilobytesSome, nothingSurplus}
-use Rattle.policy_suits.specs.Suiting.{Offered, single, lifetime, told, offeredList, in-front, Exactly, seconds, kilobytes, IfPresent, absent, at-least-one}
-use Rattle.policy_suits.proofs.Exactly.{Within, sum, exactly-sum, exactly-there, exactly-wanted, AllWithin, no-more, and-also, sameKind, apart, noneOf, kind-own, other-kinds, one-of-kind}
-use Rattle.policy_suits.proofs.AttributeList.{LifeType, Sought, there, missing, single-sought, lifetime-sought, weight, count-weight, AllFixed, room, joined-room}
+use Rattle.policy_suiting.specs.Suiting.{Offered, single, lifetime, told, offeredList, in-front, Exactly, seconds, kilobytes, IfPresent, absent, at-least-one}
+use Rattle.policy_suiting.proofs.Exactly.{Within, sum, exactly-sum, exactly-there, exactly-wanted, AllWithin, no-more, and-also, sameKind, apart, noneOf, kind-own, other-kinds, one-of-kind}
+use Rattle.policy_suiting.proofs.AttributeList.{LifeType, Sought, there, missing, single-sought, lifetime-sought, weight, count-weight, AllFixed, room, joined-room}
 
 -- ---- sought and offered
 

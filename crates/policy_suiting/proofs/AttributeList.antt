@@ -18,9 +18,9 @@ use Rattle.sa_coding.specs.Coding.{mustBeFixed, fixedWrong, isDuration, duratio
 use Rattle.sa_coding.specs.Wholes.{joined, One, Whole, alone, pair, attributesIn, attributesOfAll, Orderly, nothing, one-more}
 use Rattle.sa_coding.proofs.Wholes.{in-alone, in-pair}
 use Rattle.sa_coding.proofs.Heads.{type-head, take-head, after-head, value-head}
 use Rattle.policy_suits.specs.Suits.{findDuration}
-use Rattle.policy_suits.specs.Suiting.{Offered, single, lifetime, told, in-front}
-use Rattle.policy_suits.proofs.Exactly.{Within, within-more, within-split, none-within, sum}
+use Rattle.policy_suiting.specs.Suiting.{Offered, single, lifetime, told, in-front}
+use Rattle.policy_suiting.proofs.Exactly.{Within, within-more, within-split, none-within, sum}
 
 -- ---- the life type of an exchange
 

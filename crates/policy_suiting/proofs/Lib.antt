@@ -1,0 +1,7 @@
+pub mod Laws
+pub mod SuitLaws
+pub mod SuitingLaws
+mod Exactly
+mod AttributeList
+mod Offers
+mod TransformLaws
