@@ -16,9 +16,9 @@ use Rattle.wire_read.proofs.Tests.{by-test}
 use Rattle.wire_read.proofs.Laws.{number-agree, number-append}
 use Rattle.sa_fields.specs.Fields.{transformId, attributesOf}
 use Rattle.sa_coding.specs.Coding.{alike, attributesCode}
-use Rattle.sa_coding.specs.Wholes.{wholes, joined, Whole, attributesIn, attributesOfAll, Apart, from-none, from-one, Orderly}
-use Rattle.sa_coding.specs.Wholes as Wholes
-use Rattle.sa_coding.proofs.Wholes.{reads-orderly, orderly-reads, orderly-wholes, alike-same}
+use Rattle.sa_wholes.specs.Wholes.{wholes, joined, Whole, attributesIn, attributesOfAll, Apart, from-none, from-one, Orderly}
+use Rattle.sa_wholes.specs.Wholes as Wholes
+use Rattle.sa_wholes.proofs.Wholes.{reads-orderly, orderly-reads, orderly-wholes, alike-same}
 use Rattle.sa_transforms.specs.Transforms.{nextWanted, transformWrong, transformCode}
 use Rattle.sa_transforms.proofs.Laws.{LawfulTransform}
 use Rattle.policy_suiting.specs.Suiting.{Offered, PutIn, in-front, behind, Exactly, nothing, one-more, told, offeredList, Matches, TransformSuits, main, quick}

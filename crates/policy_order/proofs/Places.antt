@@ -16,9 +16,9 @@ use Rattle.wire_read.proofs.Tests.{clash, both, by-test}
 use Rattle.wire_read.proofs.Parts.{parts-none, parts-more}
 use Rattle.sa_attribute.specs.Attributes.{attributeType, afterAttribute, attributeCount}
 use Rattle.sa_coding.specs.Coding.{isLifeType, isDuration, wholeValue, alike, attributesCode}
-use Rattle.sa_coding.specs.Wholes.{wholes, joined, One, alone, pair, attributesOfAll, Apart, from-none, from-one, Orderly, nothing, one-more}
-use Rattle.sa_coding.proofs.Heads.{type-head, after-head, alike-head, head-alike}
-use Rattle.sa_coding.proofs.Wholes.{life-only, in-alone, in-pair, reads-orderly}
+use Rattle.sa_wholes.specs.Wholes.{wholes, joined, One, alone, pair, attributesOfAll, Apart, from-none, from-one, Orderly, nothing, one-more}
+use Rattle.sa_wholes.proofs.Heads.{type-head, after-head, alike-head, head-alike}
+use Rattle.sa_wholes.proofs.Wholes.{life-only, in-alone, in-pair, reads-orderly}
 
 -- the type of attribute j
 abbrev typeAt : (j : ℕ) (s : List ℕ) → ℕ

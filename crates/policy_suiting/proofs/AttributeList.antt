@@ -15,9 +15,9 @@ use Rattle.wire_read.proofs.Tests.{never, clash, both, by-test}
 use Rattle.wire_read.proofs.Parts.{parts-none, parts-more}
 use Rattle.sa_attribute.specs.Attributes.{sentFixed, attributeType, attributeSize, afterAttribute, valueOrLength, find, value}
 use Rattle.sa_coding.specs.Coding.{mustBeFixed, fixedWrong, isDuration, durationWrong, isLifeType}
-use Rattle.sa_coding.specs.Wholes.{joined, One, Whole, alone, pair, attributesIn, attributesOfAll, Orderly, nothing, one-more}
-use Rattle.sa_coding.proofs.Wholes.{in-alone, in-pair}
-use Rattle.sa_coding.proofs.Heads.{type-head, take-head, after-head, value-head}
+use Rattle.sa_wholes.specs.Wholes.{joined, One, Whole, alone, pair, attributesIn, attributesOfAll, Orderly, nothing, one-more}
+use Rattle.sa_wholes.proofs.Wholes.{in-alone, in-pair}
+use Rattle.sa_wholes.proofs.Heads.{type-head, take-head, after-head, value-head}
 use Rattle.policy_suits.specs.Suits.{findDuration}
 use Rattle.policy_suiting.specs.Suiting.{Offered, single, lifetime, told, in-front}
 use Rattle.policy_suiting.proofs.Exactly.{Within, within-more, within-split, none-within, sum}

@@ -12,8 +12,8 @@ use Rattle.wire_read.specs.Parts.{parts}
 use Rattle.wire_read.proofs.Tests.{both, by-test}
 use Rattle.sa_attribute.specs.Attributes.{afterAttribute, find, attribute, attributeCount, value}
 use Rattle.sa_coding.specs.Coding.{isDuration, isLifeType}
-use Rattle.sa_coding.specs.Wholes.{wholes}
-use Rattle.sa_coding.proofs.Wholes.{Reads}
+use Rattle.sa_wholes.specs.Wholes.{wholes}
+use Rattle.sa_wholes.proofs.Wholes.{Reads}
 use Rattle.policy_suits.specs.Suits.{present, valueIs, findDuration, secondsOf, kilobytesOf, secondsWithin, hasKilobytes, kilobytesSome, nothingSurplus}
 use Rattle.policy_suiting.specs.Suiting.{Offered, single, lifetime, told, offeredList, in-front, Exactly, seconds, kilobytes, IfPresent, absent, at-least-one}
 use Rattle.policy_suiting.proofs.Exactly.{Within, sum, exactly-sum, exactly-there, exactly-wanted, AllWithin, no-more, and-also, sameKind, apart, noneOf, kind-own, other-kinds, one-of-kind}

@@ -10,7 +10,7 @@ use borrow.Author.Tests.{eqb-true, eq-eqb}
 use Rattle.wire_read.specs.Tests.{if_then_else_}
 use Rattle.wire_read.proofs.Tests.{both, by-test}
 use Rattle.sa_coding.specs.Coding.{mustBeFixed, isDuration, isLifeType}
-use Rattle.sa_coding.proofs.Wholes.{Reads, reads-orderly}
+use Rattle.sa_wholes.proofs.Wholes.{Reads, reads-orderly}
 use Rattle.sa_fields.specs.Fields.{transformId, attributesOf}
 use Rattle.sa_transforms.proofs.Laws.{LawfulTransform}
 use Rattle.policy_suits.specs.Suits.{valueIs, secondsWithin, kilobytesSome, nothingSurplus, mainValues, mainSuits, quickId, quickAuthentication, quickSuits}

@@ -12,7 +12,7 @@ use Rattle.wire_read.specs.Tests.{if_then_else_}
 use Rattle.policy_lines.specs.Lines.{mainSeconds, quickProtocols, quickMode, quickSeconds}
 use Rattle.sa_attribute.specs.Attributes.{attributeType, afterAttribute, value}
 use Rattle.sa_coding.specs.Coding.{isLifeType}
-use Rattle.sa_coding.specs.Wholes.{wholes}
+use Rattle.sa_wholes.specs.Wholes.{wholes}
 use Rattle.sa_fields.specs.Fields.{protocol, transformCount, transformNumber, transformId, attributesOf}
 use Rattle.sa_items.specs.Items.{firstItem, afterItem, proposal, proposalCount, transform}
 

@@ -12,8 +12,8 @@ use Rattle.wire_read.specs.Wire.{Bytes}
 use Rattle.wire_read.specs.Parts.{skip}
 use Rattle.sa_attribute.specs.Attributes.{attributeType, afterAttribute, attributeCount}
 use Rattle.sa_coding.specs.Coding.{isLifeType, isDuration, wholeValue, attributesCode}
-use Rattle.sa_coding.specs.Wholes.{wholes, joined, Orderly}
-use Rattle.sa_coding.proofs.Wholes.{reads-orderly}
+use Rattle.sa_wholes.specs.Wholes.{wholes, joined, Orderly}
+use Rattle.sa_wholes.proofs.Wholes.{reads-orderly}
 use Rattle.policy_order.proofs.Places as places
 use Rattle.sa_transforms.specs.Transforms.{transformCode}
 use Rattle.sa_transforms.proofs.Laws.{LawfulTransform}

@@ -11,9 +11,9 @@ use lib.Dec.{ltb, eqb}
 use borrow.Author.Tests.{eqb-true, eqb-false, eq-eqb, ne-eqb, ltb-false, le-ltb}
 use Rattle.wire_read.proofs.Tests.{clash, both, neither, by-test, passed}
 use Rattle.sa_attribute.specs.Attributes.{sentFixed, attributeType, attributeSize, afterAttribute}
 use Rattle.sa_coding.specs.Coding.{outOfBounds, fixedWrong, durationWrong, isLifeType, isDuration, wholeValue, alike, repeats, standsWrong, attributeCode, lastCode, attributesFrom, attributesCode}
-use Rattle.sa_coding.specs.Wholes.{wholeSize, wholesFrom, wholes, joined, One, Whole, alone, pair, attributesIn, attributesOfAll, Apart, from-none, from-one, Orderly, nothing, one-more}
-use Rattle.sa_coding.proofs.Heads.{type-head, size-head, fixed-head, duration-head, take-head, after-head, bounds-head, alike-head, head-alike}
+use Rattle.sa_wholes.specs.Wholes.{wholeSize, wholesFrom, wholes, joined, One, Whole, alone, pair, attributesIn, attributesOfAll, Apart, from-none, from-one, Orderly, nothing, one-more}
+use Rattle.sa_wholes.proofs.Heads.{type-head, size-head, fixed-head, duration-head, take-head, after-head, bounds-head, alike-head, head-alike}
 
 -- what is so of attributes that read
 pub record Reads (exchange : ℕ) (s : List ℕ) : Type 0 where
