@@ -26,7 +26,8 @@ ghost use Prim.Native.Nat.{_+_, _≤_};
 ghost use Rattle.policy_lines.specs.Lines.{place};
 ghost use Rattle.policy_choice.specs.Choice.{lineCount, lineFrom, firstLine, lowestNumber, transformsOf, chosen, setFrom, chooseFrom, bodyAt, saFrom, messageRefusal, choice};
 
-fn line_count(exchange: u8, book: &[u8]) -> u8
+// How many lines the book has for an exchange.
+pub fn line_count(exchange: u8, book: &[u8]) -> u8
     ensures { λ r. ⌜ r ≡ lineCount exchange (now (book .entry)) ⌝ }
 {
     if exchange == 2 {
@@ -131,11 +132,18 @@ fn sa_from(n: u8, k: u8, m: &[u8]) -> &[u8]
     sa_from(n - 1, k + 1, m)
 }
 
+// The body of the SA payload among so many payloads; no bytes where there is none.
+pub fn sa_of(count: u8, m: &[u8]) -> &[u8]
+    ensures { λ r. ⌜ now r ≡ saFrom count 0 (now (m .entry)) ⌝ }
+{
+    sa_from(count, 0, m)
+}
+
 // The body of the SA payload; a message has at most 32 payloads.
 pub fn sa_body(m: &[u8]) -> &[u8]
     ensures { λ r. ⌜ now r ≡ saFrom 32 0 (now (m .entry)) ⌝ }
 {
-    sa_from(32, 0, m)
+    sa_of(32, m)
 }
 
 // The number of a message that was refused.
@@ -163,7 +171,7 @@ pub fn choose(book: &[u8], m: &[u8]) -> Choice
     let Message::Read { exchange, count } = read else {
         return refusal(read);
     };
-    let body = sa_from(count, 0, m);
+    let body = sa_of(count, m);
     if body.len() == 0 {
         return Choice::Refused(16);
     }

@@ -2,10 +2,17 @@
 use wire_read::be32;
 use wire_read::byte;
 ghost use mathlib.Core.Path.{_≡_};
-ghost use Rattle.policy_lines.specs.Lines.{quickStart, quickCount, bookSize, mainSeconds, quickAt, quickProtocols, quickMode, quickSeconds};
+ghost use Rattle.policy_lines.specs.Lines.{place, quickStart, quickCount, bookSize, mainSeconds, quickAt, quickProtocols, quickMode, quickSeconds};
 
 // Lines are counted from 1, among the main lines or among the quick lines; 0 is no line.
 pub struct LineNumber(pub u8);
+
+// The place of a line, counted from 0.
+pub fn place(line: LineNumber) -> u8
+    ensures { λ r. ⌜ r ≡ place line ⌝ }
+{
+    if line.0 == 0 { 0 } else { line.0 - 1 }
+}
 
 fn quick_start(book: &[u8]) -> u16
     ensures { λ r. ⌜ r ≡ quickStart (now (book .entry)) ⌝ }

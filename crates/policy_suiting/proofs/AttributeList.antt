@@ -28,12 +28,12 @@ pub data LifeType : (exchange lifetype : ℕ) → Type 0 where
   main-life : LifeType 2 11
   quick-life : LifeType 32 1
 
-life-is : {exchange lifetype : ℕ} → LifeType exchange lifetype → (t : ℕ) → isLifeType exchange t ≡ eqb t lifetype
+pub life-is : {exchange lifetype : ℕ} → LifeType exchange lifetype → (t : ℕ) → isLifeType exchange t ≡ eqb t lifetype
 unfolding isLifeType
 life-is main-life t = or-false (eqb t 11)
 life-is quick-life t = refl
 
-duration-no-life : {exchange lifetype : ℕ} → LifeType exchange lifetype → (t : ℕ) → isDuration exchange t ≡ true → eqb t lifetype ≡ false
+pub duration-no-life : {exchange lifetype : ℕ} → LifeType exchange lifetype → (t : ℕ) → isDuration exchange t ≡ true → eqb t lifetype ≡ false
 unfolding isDuration
 duration-no-life main-life t h = rw (eqb-true t 12 (sym (or-false (eqb t 12)) ∙ h))
 duration-no-life quick-life t h = rw (eqb-true t 2 h)
@@ -41,7 +41,7 @@ duration-no-life quick-life t h = rw (eqb-true t 2 h)
 -- ---- a step of each walk
 
 module _ {exchange : ℕ} {a : List ℕ} (o : One exchange a) (r : List ℕ) where
-  long-enough : ltb (length (a ++ r)) 4 ≡ false
+  pub long-enough : ltb (length (a ++ r)) 4 ≡ false
   long-enough = le-ltb (length (a ++ r)) 4 (omega (arith, length-append a r, o .long))
 
   find-step : (k t : ℕ) → find (suc k) t (a ++ r) ≡ (if eqb (attributeType a) t then a else find k t r)
@@ -61,11 +61,11 @@ module _ {exchange : ℕ} {a : List ℕ} (o : One exchange a) (r : List ℕ) whe
 
 -- ---- what a whole is told as
 
-told-alone : (exchange : ℕ) (a : List ℕ) → isLifeType exchange (attributeType a) ≡ false → told exchange a ≡ single (attributeType a) (value a)
+pub told-alone : (exchange : ℕ) (a : List ℕ) → isLifeType exchange (attributeType a) ≡ false → told exchange a ≡ single (attributeType a) (value a)
 unfolding told
 told-alone exchange a l = rw l
 
-told-pair : {exchange : ℕ} {a : List ℕ} (d : List ℕ) → One exchange a → isLifeType exchange (attributeType a) ≡ true →
+pub told-pair : {exchange : ℕ} {a : List ℕ} (d : List ℕ) → One exchange a → isLifeType exchange (attributeType a) ≡ true →
     told exchange (a ++ d) ≡ lifetime (value a) (value d)
 unfolding told
 told-pair {a = a} d o l = rw (type-head a d (o .long), l, value-head a d (o .long) (o .size), after-head a d (o .long) (o .size))
@@ -92,10 +92,10 @@ unfolding findDuration
 duration-none zero lifetype unit = refl
 duration-none (suc k) lifetype unit = refl
 
-same-type : {t u v w : ℕ} → single t v ≡ single u w → t ≡ u
+pub same-type : {t u v w : ℕ} → single t v ≡ single u w → t ≡ u
 same-type e = cc
 
-same-unit : {t u v w : ℕ} → lifetime t v ≡ lifetime u w → t ≡ u
+pub same-unit : {t u v w : ℕ} → lifetime t v ≡ lifetime u w → t ≡ u
 same-unit e = cc
 
 -- an attribute by its type, which is neither life type nor duration
@@ -221,7 +221,7 @@ module _ (exchange : ℕ) {a : List ℕ} (o : One exchange a) where
       let few : not (leb 1 n && leb n 4) ≡ false = rw (h, e) at (o .duration) in
       omega (arith, leb-true n 4 (both (leb 1 n) (leb n 4) (not-false _ few) .1)))
 
-life-fixed : (exchange t : ℕ) → isLifeType exchange t ≡ true → mustBeFixed exchange t ≡ true
+pub life-fixed : (exchange t : ℕ) → isLifeType exchange t ≡ true → mustBeFixed exchange t ≡ true
 unfolding isLifeType mustBeFixed
 life-fixed exchange t h =
     by-test (eqb exchange 2 && eqb t 11)

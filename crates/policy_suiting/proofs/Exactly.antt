@@ -40,7 +40,7 @@ sum weight [] = 0
 sum weight (x ∷ l) = weight x + sum weight l
 
 module _ {A : Type 0} where
-  put-sum : (weight : A → ℕ) {x : A} {rest whole : List A} → PutIn x rest whole → sum weight whole ≡ weight x + sum weight rest
+  pub put-sum : (weight : A → ℕ) {x : A} {rest whole : List A} → PutIn x rest whole → sum weight whole ≡ weight x + sum weight rest
   unfolding sum
   put-sum weight in-front = refl
   put-sum weight (behind p) = omega (arith, put-sum weight p)
@@ -49,7 +49,7 @@ module _ {A : Type 0} where
   within-more y (rest, p) = (y ∷ rest, behind p)
 
   -- what is in the whole is what was put in, or was there before
-  put-split : {x y : A} {rest whole : List A} → PutIn x rest whole → Within y whole → (x ≡ y) ⊎ Within y rest
+  pub put-split : {x y : A} {rest whole : List A} → PutIn x rest whole → Within y whole → (x ≡ y) ⊎ Within y rest
   put-split in-front (others, in-front) = inl refl
   put-split in-front (others, behind q) = inr (_, q)
   put-split (behind p) (others, in-front) = inr (_, in-front)

@@ -1,7 +1,7 @@
 pub mod Laws
 pub mod SuitLaws
 pub mod SuitingLaws
-mod Exactly
-mod AttributeList
-mod Offers
-mod TransformLaws
+pub mod Exactly
+pub mod AttributeList
+pub mod Offers
+pub mod TransformLaws

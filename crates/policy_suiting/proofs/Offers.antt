@@ -22,11 +22,11 @@ use Rattle.policy_suiting.proofs.AttributeList.{LifeType, Sought, there
 -- ---- sought and offered
 
 module _ {kind : ℕ → Offered} {found : List ℕ} {offered : List Offered} where
-  found-offered : Sought kind found offered → 4 ≤ length found → Within (kind (value found)) offered
+  pub found-offered : Sought kind found offered → 4 ≤ length found → Within (kind (value found)) offered
   found-offered (there h m) long = m
   found-offered (missing h none) long = absurd (omega arith)
 
-  offered-found : Sought kind found offered → (v : ℕ) → Within (kind v) offered → 4 ≤ length found
+  pub offered-found : Sought kind found offered → (v : ℕ) → Within (kind v) offered → 4 ≤ length found
   offered-found (there h m) v w = h
   offered-found (missing h none) v w = absurd (none v w)
 
@@ -42,19 +42,19 @@ module _ {exchange lifetype : ℕ} (known : LifeType exchange lifetype) (s : Lis
   abbrev offered : List Offered
   offered = offeredList exchange s
 
-  single-in : (t : ℕ) → Plain exchange t → Sought (single t) (attribute t s) offered
+  pub single-in : (t : ℕ) → Plain exchange t → Sought (single t) (attribute t s) offered
   unfolding offeredList attribute
   single-in t plain =
       subst (λ (x : List ℕ). Sought (single t) (find 16 t x) (map (told exchange) (wholes exchange s))) (reads .all)
       (single-sought exchange t (plain .0) (plain .1) 16 (reads .orderly) (reads .few))
 
-  lifetime-in : (unit : ℕ) → Sought (lifetime unit) (findDuration 16 lifetype unit s) offered
+  pub lifetime-in : (unit : ℕ) → Sought (lifetime unit) (findDuration 16 lifetype unit s) offered
   unfolding offeredList
   lifetime-in unit =
       subst (λ (x : List ℕ). Sought (lifetime unit) (findDuration 16 lifetype unit x) (map (told exchange) (wholes exchange s))) (reads .all)
       (lifetime-sought known unit 16 (reads .orderly) (reads .few))
 
-  count-in : attributeCount s ≡ sum weight offered
+  pub count-in : attributeCount s ≡ sum weight offered
   unfolding offeredList attributeCount
   count-in =
       subst (λ (x : List ℕ). parts afterAttribute 16 x ≡ sum weight (map (told exchange) (wholes exchange s))) (reads .all)
@@ -92,11 +92,11 @@ module _ {exchange lifetype : ℕ} (known : LifeType exchange lifetype) (s : Lis
         within = found-offered (lifetime-in 1) (leb-true _ _ (b .0));
       }
 
-  kilobytes-long : hasKilobytes lifetype s ≡ true → 4 ≤ length (kilobytesOf lifetype s)
+  pub kilobytes-long : hasKilobytes lifetype s ≡ true → 4 ≤ length (kilobytesOf lifetype s)
   unfolding hasKilobytes
   kilobytes-long e = leb-true _ _ e
 
-  long-kilobytes : 4 ≤ length (kilobytesOf lifetype s) → hasKilobytes lifetype s ≡ true
+  pub long-kilobytes : 4 ≤ length (kilobytesOf lifetype s) → hasKilobytes lifetype s ≡ true
   unfolding hasKilobytes
   long-kilobytes h = le-leb _ _ h
 

@@ -147,7 +147,7 @@ module _ (exchange i : ℕ) (book set : List ℕ) where
       by-test (eqb exchange 2) (λ e. rw e (alone-says set 1 (rw e at h)))
       (λ e. by-test (eqb (quickProtocols i book) 1) (λ f. rw (e, f) (alone-says set 3 (rw (e, f) at h))) (λ f. rw (e, f) (both-says set (rw (e, f) at h))))
 
-  say-protocols : Exactly (lineProtocols exchange i book) (protocolList set) → protocolsSuit exchange i book set ≡ true
+  pub say-protocols : Exactly (lineProtocols exchange i book) (protocolList set) → protocolsSuit exchange i book set ≡ true
   unfolding protocolsSuit lineProtocols
   say-protocols h =
       by-test (eqb exchange 2) (λ e. rw e (says-alone set 1 (rw e at h)))

@@ -1,6 +1,7 @@
 // Which transform, and which set, suits which line of the book.
 use policy_lines::LineNumber;
 use policy_lines::main_seconds;
+use policy_lines::place;
 use policy_lines::quick_mode;
 use policy_lines::quick_protocols;
 use policy_lines::quick_seconds;
@@ -31,14 +32,7 @@ pub enum SuitingTransform {
     Lowest(TransformNumber),
 }
 
-// The place of a line, counted from 0.
-fn place(line: LineNumber) -> u8
-    ensures { λ r. ⌜ r ≡ place line ⌝ }
-{
-    if line.0 == 0 { 0 } else { line.0 - 1 }
-}
-
-fn value_is(attributetype: u16, wanted: u32, attributes: &[u8]) -> bool
+pub fn value_is(attributetype: u16, wanted: u32, attributes: &[u8]) -> bool
     ensures { λ r. ⌜ r ≡ valueIs attributetype wanted (now (attributes .entry)) ⌝ }
 {
     let found = attribute(attributetype, attributes);
@@ -46,7 +40,7 @@ fn value_is(attributetype: u16, wanted: u32, attributes: &[u8]) -> bool
 }
 
 // The duration behind the life type of this value among the first `left` attributes; no bytes where there is none.
-fn find_duration(left: u8, lifetype: u16, unit: u32, s: &[u8]) -> &[u8]
+pub fn find_duration(left: u8, lifetype: u16, unit: u32, s: &[u8]) -> &[u8]
     ensures { λ r. ⌜ now r ≡ findDuration left lifetype unit (now (s .entry)) ⌝ }
 {
     if left == 0 {
@@ -62,7 +56,7 @@ fn find_duration(left: u8, lifetype: u16, unit: u32, s: &[u8]) -> &[u8]
     find_duration(left - 1, lifetype, unit, behind)
 }
 
-fn seconds_within(lifetype: u16, longest: u32, attributes: &[u8]) -> bool
+pub fn seconds_within(lifetype: u16, longest: u32, attributes: &[u8]) -> bool
     ensures { λ r. ⌜ r ≡ secondsWithin lifetype longest (now (attributes .entry)) ⌝ }
 {
     let found = find_duration(16, lifetype, 1, attributes);
@@ -76,14 +70,14 @@ fn has_kilobytes(lifetype: u16, attributes: &[u8]) -> bool
     4 <= find_duration(16, lifetype, 2, attributes).len()
 }
 
-fn kilobytes_some(lifetype: u16, attributes: &[u8]) -> bool
+pub fn kilobytes_some(lifetype: u16, attributes: &[u8]) -> bool
     ensures { λ r. ⌜ r ≡ kilobytesSome lifetype (now (attributes .entry)) ⌝ }
 {
     let found = find_duration(16, lifetype, 2, attributes);
     !(4 <= found.len()) | (1 <= value(found))
 }
 
-fn nothing_surplus(wanted: u8, lifetype: u16, attributes: &[u8]) -> bool
+pub fn nothing_surplus(wanted: u8, lifetype: u16, attributes: &[u8]) -> bool
     ensures { λ r. ⌜ r ≡ nothingSurplus wanted lifetype (now (attributes .entry)) ⌝ }
 {
     let count = attribute_count(attributes) as u16;
@@ -216,7 +210,7 @@ fn protocols_both(set: &[u8]) -> bool
     (proposal_count(set) == 2) & ((first == 2) & (second == 3) | (first == 3) & (second == 2))
 }
 
-fn protocols_suit(exchange: u8, line: LineNumber, book: &[u8], set: &[u8]) -> bool
+pub fn protocols_suit(exchange: u8, line: LineNumber, book: &[u8], set: &[u8]) -> bool
     ensures { λ r. ⌜ r ≡ protocolsSuit exchange (place line) (now (book .entry)) (now (set .entry)) ⌝ }
 {
     if exchange == 2 {
