@@ -18,6 +18,9 @@ pub mod Sets
 pub mod Choice
 pub mod Lifetimes
 pub mod LifetimeExamples
+pub mod Why
+pub mod WhyAnswers
+pub mod WhyExamples
 pub mod PolicySuits
 pub mod Reply
 pub mod SequenceAnswers
