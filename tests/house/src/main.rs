@@ -58,8 +58,8 @@ fn main() -> ExitCode {
             return ExitCode::from(u8::from(!write_pages(Path::new(root))));
         }
     }
-    let [_, root, bench, verdict, capture] = &arguments[..] else {
-        eprintln!("house ROOT BENCH VERDICT CAPTURE, or house --write ROOT");
+    let [_, root, bench, verdict, capture, why] = &arguments[..] else {
+        eprintln!("house ROOT BENCH VERDICT CAPTURE WHY, or house --write ROOT");
         return ExitCode::from(2);
     };
     let root = Path::new(root);
@@ -76,6 +76,7 @@ fn main() -> ExitCode {
     scripts(root, bench, &mut tally);
     verdicts(root, verdict, &mut tally);
     listings(root, capture, &mut tally);
+    causes(root, why, &mut tally);
     shown(root, &mut tally);
     println!("{} passed, {} failed", tally.passed, tally.failed);
     ExitCode::from(u8::from(tally.failed > 0))
@@ -257,6 +258,16 @@ fn verdicts(root: &Path, verdict: &str, tally: &mut Tally) {
     }
 }
 
+/// Where there is a samples/X.why, it is what why prints of samples/X.book and samples/X.message.
+fn causes(root: &Path, why: &str, tally: &mut Tally) {
+    let pages = below(&root.join("samples"), "why");
+    tally.fact(!pages.is_empty(), || "samples/ says of no offer why it does not suit".into());
+    for page in pages {
+        let input = [content(&page.with_extension("book")), content(&page.with_extension("message"))].concat();
+        answers(&mut Command::new(why), &input, &page, tally);
+    }
+}
+
 /// samples/X.pcap is for capture, and samples/X.listing is what it prints; where there is a samples/X.book, samples/X.choices is what it prints
 /// with that.
 fn listings(root: &Path, capture: &str, tally: &mut Tally) {
@@ -274,10 +285,10 @@ fn listings(root: &Path, capture: &str, tally: &mut Tally) {
     }
 }
 
-/// A run of ./verdict or ./capture in README.md is one on a sample, and shows what that sample's page says.
+/// A run of ./verdict, ./why or ./capture in README.md is one on a sample, and shows what that sample's page says.
 fn shown(root: &Path, tally: &mut Tally) {
     let readme = text(&root.join("README.md"));
-    for program in ["verdict", "capture"] {
+    for program in ["verdict", "why", "capture"] {
         let runs: Vec<&str> = readme.split(&format!("\n$ ./{program} ")).skip(1).collect();
         tally.fact(!runs.is_empty(), || format!("README.md shows no run of ./{program}"));
         for run in runs {
@@ -295,9 +306,9 @@ fn shown(root: &Path, tally: &mut Tally) {
 fn page_of(program: &str, files: &str) -> Option<String> {
     let name = files.split('.').next()?;
     let kind = match (program, &files.replace(name, "X")[..]) {
-        ("verdict", "X.book X.message") => "verdict",
+        ("verdict" | "why", "X.policy X.message") => program,
         ("capture", "X.pcap") => "listing",
-        ("capture", "X.pcap X.book") => "choices",
+        ("capture", "X.pcap X.policy") => "choices",
         _ => return None,
     };
     Some(format!("{name}.{kind}"))
