@@ -9,6 +9,7 @@ mod lent;
 mod lives;
 mod port;
 mod reading;
+mod reasons;
 mod replying;
 mod verbs;
 
@@ -32,6 +33,13 @@ type Bytes = [u8; 32768];
 
 // A line is at most so many bytes long, without its line end.
 const LONGEST: usize = 65535;
+
+// The longest answer and its line end: that of `why` for eight lines and sixteen sets of eight transforms, all of them with
+// numbers of three digits and `surplus 32767`, has 3 + 8 * 16 * (15 + 8 * 39) characters.
+const LONGEST_ANSWER: usize = 41860;
+
+// Output that is more than this is written before the next line, so that there is always room for the longest answer.
+const MOST_SAID: usize = 65536 - LONGEST_ANSWER;
 
 // What goes from line to line, but for the quick mode ends: how far the input is taken and filled, how far the line and
 // the output are filled, whether the line is whole, whether to read on, and the record of the lines that begin with `lent`.

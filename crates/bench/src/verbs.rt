@@ -1,6 +1,7 @@
 // The table of verbs: the number of words on a line, the verb, and the room that answers it. The verbs of the quick mode
 // ends are bench_ends's.
 use crate::LONGEST;
+use crate::MOST_SAID;
 use crate::State;
 use crate::captured;
 use crate::choosing;
@@ -11,6 +12,7 @@ use crate::lent;
 use crate::lives;
 use crate::port;
 use crate::reading;
+use crate::reasons;
 use crate::replying;
 use bench_words::say;
 use bench_words::say::append;
@@ -20,8 +22,7 @@ use wire_read::byte;
 use wire_read::equal;
 use wire_read::front;
 
-// Answers the line that is kept, where it is whole and no end has answered it, and begins the next one. The output is
-// written when it is more than half full, so half of it is room for an answer.
+// Answers the line that is kept, where it is whole and no end has answered it, and begins the next one.
 pub(crate) fn answer(
     kept: &[u8],
     known: bool,
@@ -36,7 +37,7 @@ pub(crate) fn answer(
     state = ended(front(kept, state.line), known, lives, bytes, out, state);
     state.line = 0;
     state.whole = false;
-    if out.len() / 2 < state.said {
+    if MOST_SAID < state.said {
         flush(out, state)
     } else {
         state
@@ -116,6 +117,9 @@ fn reading_verbs(
     }
     if (words == 3) & equal(verb, b"choose") {
         return choosing::choose(line, bytes, out, said);
+    }
+    if (words == 3) & equal(verb, b"why") {
+        return reasons::answer(line, bytes, out, said);
     }
     if (words == 6) & equal(verb, b"reply") {
         return replying::answer(line, bytes, out, said);
