@@ -92,30 +92,26 @@ table =
     ∷ []
 
 pub why-examples : map (λ (e : Example). e .defined) table ≡ map (λ (e : Example). e .printed) table
-unfolding table espId20 keyLength twoHours transportBook espOf singles lifeType duration kilobytes ah espWithAh espAlone numberAt allZero quickMessage quickBook
-    attributes.sentFixed attributes.attributeType attributes.attributeSize attributes.afterAttribute coding.outOfBounds attributes.find
-    attributes.attribute coding.mustBeFixed coding.fixedWrong coding.isDuration coding.durationWrong coding.isLifeType coding.valueLength
-    coding.fromValue coding.wholeValue coding.alike coding.repeats coding.standsWrong coding.attributeCode coding.lastCode
+unfolding table espId20 keyLength twoHours transportBook espOf singles lifeType duration kilobytes ah espWithAh espAlone numberAt allZero
+    quickMessage quickBook attributes.sentFixed attributes.attributeType attributes.attributeSize attributes.afterAttribute coding.outOfBounds
+    attributes.find attributes.attribute coding.mustBeFixed coding.fixedWrong coding.isDuration coding.durationWrong coding.isLifeType
+    coding.valueLength coding.fromValue coding.wholeValue coding.alike coding.repeats coding.standsWrong coding.attributeCode coding.lastCode
     coding.attributesFrom coding.attributesCode transforms.nextWanted transforms.transformWrong transforms.transformCode
     transforms.transformsCode proposals.proposalWrong proposals.has proposals.with proposals.none proposals.setBefore proposals.orderWrong
     proposals.protocolWrong proposals.spiWrong proposals.countWrong proposals.transformBytes proposals.innerCode proposals.proposalCode
     proposals.proposalsCode proposals.offerCode header.lengthWrong header.majorWrong header.minorWrong header.exchangeRefused
-    header.exchangeUnknown header.flagsWrong header.cookieZero header.messageIdWrong header.flaggedLengthWrong header.noPayload
-    header.headerCode payloads.typeWrong payloads.lengthOut payloads.bodyCode payloads.bodyOf payloads.payloadCode payloads.restCode
-    message.inFront message.chain message.reading attributes.value attributes.attributeCount parts.skip parts.parts items.firstItem
-    items.afterItem sets.setEnd sets.firstSet sets.afterSet sets.set sets.setCount items.proposal items.proposalCount fields.proposalNumber
-    fields.protocol fields.transformCount items.transform fields.transformNumber fields.transformId fields.attributesOf lines.quickStart
-    lines.quickCount lines.bookSize lines.mainSeconds lines.quickAt lines.quickProtocols lines.quickMode lines.quickSeconds
-    books.mainLineLawful books.quickLineLawful books.mainLinesLawful books.quickLinesLawful books.bookInFront books.bookRead suits.present
-    suits.valueIs suits.findDuration suits.secondsWithin suits.hasKilobytes suits.kilobytesSome suits.nothingSurplus suits.mainValues
-    suits.mainSuits suits.quickId suits.quickAuthentication suits.quickSuits suits.suitsLine suits.transformSuits suits.lowestFrom
-    suits.lowest suits.protocolsAlone suits.protocolsBoth suits.protocolsSuit suits.setSuits choices.lineCount choices.lineFrom
-    choices.firstLine choices.numberOf choices.transformsOf choices.chosen choices.setFrom choices.chooseFrom choices.bodyAt choices.saFrom
-    choices.messageChoice choices.bookChoice choices.choice choices.choiceAnswer message.exchangeAndCount message.message message.walk
-    message.payloadAt
-    causes.wishOf causes.wanted causes.wantedCount causes._orElse_ causes.firstCause causes.idCause causes.isThere causes.missingOne
-    causes.missingCause causes.valueOne causes.valueCause causes.typeWanted causes.isWanted causes.firstSurplus causes.surplusCause
-    causes.secondsCause causes.kilobytesCause causes.attributesCause causes.wishCause causes.transformCause causes.pairCause
-    causes.causeValues causes.pairAnswer why.messageOffer why.bookOffer why.offered why.isPlace why.causeIn why.offerCause why.why
-    why.whyAnswer
+    header.exchangeUnknown header.flagsWrong header.cookieZero header.messageIdWrong header.flaggedLengthWrong header.noPayload header.headerCode
+    payloads.typeWrong payloads.lengthOut payloads.bodyCode payloads.bodyOf payloads.payloadCode payloads.restCode message.inFront message.chain
+    message.reading attributes.value attributes.attributeCount parts.skip parts.parts items.firstItem items.afterItem sets.setEnd sets.firstSet
+    sets.afterSet sets.set sets.setCount items.proposal items.proposalCount fields.proposalNumber fields.protocol fields.transformCount
+    items.transform fields.transformNumber fields.transformId fields.attributesOf lines.quickStart lines.quickCount lines.bookSize lines.quickAt
+    lines.quickProtocols lines.quickMode lines.quickSeconds books.quickLineLawful books.mainLinesLawful books.quickLinesLawful books.bookInFront
+    books.bookRead suits.present suits.valueIs suits.findDuration suits.secondsWithin suits.hasKilobytes suits.kilobytesSome suits.nothingSurplus
+    suits.quickId suits.quickAuthentication suits.quickSuits suits.suitsLine suits.transformSuits suits.lowestFrom suits.lowest
+    suits.protocolsAlone suits.protocolsBoth suits.protocolsSuit suits.setSuits choices.lineCount choices.bodyAt choices.saFrom
+    message.exchangeAndCount message.message message.walk message.payloadAt causes.wishOf causes.wanted causes.wantedCount causes._orElse_
+    causes.firstCause causes.idCause causes.isThere causes.missingOne causes.missingCause causes.valueOne causes.valueCause causes.typeWanted
+    causes.isWanted causes.firstSurplus causes.surplusCause causes.secondsCause causes.kilobytesCause causes.attributesCause causes.wishCause
+    causes.transformCause causes.pairCause causes.causeValues causes.pairAnswer why.messageOffer why.bookOffer why.offered why.isPlace
+    why.causeIn why.offerCause why.why why.whyAnswer
 why-examples = refl
