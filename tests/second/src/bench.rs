@@ -6,7 +6,7 @@ use crate::quick_lines::Ends;
 use crate::refusal::Refusal;
 use crate::reply::{self, Spis};
 use crate::sequence::{Key, Loss, Receive, Table};
-use crate::{der, identity, lines, port4500, record};
+use crate::{der, identity, lines, port4500, record, why};
 use std::io::{self, BufRead, BufReader, Read, Write};
 
 const LONGEST_LINE: usize = 65_535;
@@ -39,6 +39,10 @@ impl Bench {
             [b"choose", book, message] => {
                 let (book, message) = (lines::bytes(book)?, lines::bytes(message)?);
                 Some(answer(policy::choose(&book, &message), chosen))
+            }
+            [b"why", book, message] => {
+                let (book, message) = (lines::bytes(book)?, lines::bytes(message)?);
+                Some(answer(why::answer(&book, &message), |causes| causes))
             }
             [b"reply", book, ah, esp, room, message] => {
                 let (book, message) = (lines::bytes(book)?, lines::bytes(message)?);

@@ -1,5 +1,5 @@
-//! The second program, written from document 01 and the requests alone. Each rule has a room of its own; `bench`, `verdict`
-//! and `capture` are what a caller sees of them. It is a library so that the makers of test lines can use what it writes.
+//! The second program, written from document 01 and the requests alone. Each rule has a room of its own; `bench`, `verdict`,
+//! `capture` and `why` are what a caller sees of them. It is a library so that the makers of test lines can use what it writes.
 
 pub mod bench;
 pub mod capture;
@@ -19,5 +19,6 @@ mod refusal;
 mod reply;
 mod sequence;
 pub mod verdict;
+pub mod why;
 mod wire;
 mod write;

@@ -1,7 +1,8 @@
-//! The second program: answers the lines of `bench`. `second verdict` is a verdict program instead, and `second capture`
-//! lists a capture, with a book whose path is given.
+//! The second program: answers the lines of `bench`. `second verdict` is a verdict program instead, `second capture` lists
+//! a capture, with a book whose path is given, and `second why` says what the words of `why` must tell, of a book of so
+//! many bytes if a size is given.
 
-use second::{bench, capture, verdict};
+use second::{bench, capture, verdict, why};
 use std::fs;
 use std::io::{self, BufWriter};
 
@@ -14,13 +15,17 @@ fn main() {
         ["verdict"] => verdict::answer(input, &mut output),
         ["capture"] => capture::answer(input, None, &mut output),
         ["capture", book] => fs::read(book).and_then(|book| capture::answer(input, Some(&book), &mut output)),
-        _ => {
-            eprintln!("usage: second [verdict | capture [BOOK]]");
-            std::process::exit(2);
-        }
+        ["why"] => why::tell(input, None, &mut output),
+        ["why", size] => why::tell(input, Some(size.parse().unwrap_or_else(|_| usage())), &mut output),
+        _ => usage(),
     };
     if let Err(error) = outcome {
         eprintln!("second: cannot read its input or write its answers: {error}");
         std::process::exit(1);
     }
+}
+
+fn usage() -> ! {
+    eprintln!("usage: second [verdict | capture [BOOK] | why [SIZE]]");
+    std::process::exit(2)
 }

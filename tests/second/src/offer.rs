@@ -217,6 +217,11 @@ pub fn proposals(body: &[u8]) -> impl Iterator<Item = Proposal<'_>> {
     })
 }
 
+/// "Proposals with equal number form one set": they stand behind each other, as numbers do not fall.
+pub fn sets<'p, 'a>(proposals: &'p [Proposal<'a>]) -> impl Iterator<Item = &'p [Proposal<'a>]> {
+    proposals.chunk_by(|one, next| one.number == next.number)
+}
+
 impl<'a> Proposal<'a> {
     pub fn transforms(&self) -> impl Iterator<Item = Transform<'a>> {
         let rules = if self.protocol == ISAKMP { &MAIN_RULES } else { &QUICK_RULES };
@@ -229,19 +234,29 @@ impl<'a> Proposal<'a> {
     }
 }
 
-impl Transform<'_> {
-    /// Type and value of each attribute that is no part of a lifetime.
-    pub fn singles(&self) -> Vec<(u16, u64)> {
-        let is_single =
-            |attribute: &Attribute| ![self.rules.life_type, self.rules.life_duration].contains(&attribute.kind);
-        self.attributes().filter(is_single).map(|attribute| (attribute.kind, attribute.number())).collect()
-    }
+/// What has its place in a transform as a whole: an attribute by itself, or a life type with its duration.
+pub struct Whole {
+    /// In a lifetime those of the life type.
+    pub kind: u16,
+    pub value: u64,
+    /// Only a lifetime has one.
+    pub duration: Option<u64>,
+}
 
-    /// The value of each life type, with the duration that stands behind it.
-    pub fn lifetimes(&self) -> Vec<(u64, u64)> {
-        let of_kind = |kind: u16| self.attributes().filter(move |attribute| attribute.kind == kind);
-        let pairs = of_kind(self.rules.life_type).zip(of_kind(self.rules.life_duration));
-        pairs.map(|(life_type, duration)| (life_type.number(), duration.number())).collect()
+impl Transform<'_> {
+    /// In the offer's order.
+    pub fn wholes(&self) -> Vec<Whole> {
+        let mut wholes: Vec<Whole> = Vec::new();
+        for attribute in self.attributes() {
+            match wholes.last_mut() {
+                // It stands right behind its life type.
+                Some(lifetime) if attribute.kind == self.rules.life_duration => {
+                    lifetime.duration = Some(attribute.number());
+                }
+                _ => wholes.push(Whole { kind: attribute.kind, value: attribute.number(), duration: None }),
+            }
+        }
+        wholes
     }
 
     fn attributes(&self) -> impl Iterator<Item = Attribute<'_>> {

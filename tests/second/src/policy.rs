@@ -3,7 +3,7 @@
 //! Book: count, main lines of seconds (4); count, quick lines of protocols, mode, seconds (4).
 
 use crate::message::{self, Reading, MAIN_MODE};
-use crate::offer::{self, Proposal, Transform, AH, ESP, ISAKMP};
+use crate::offer::{self, Proposal, Transform, Whole, AH, ESP, ISAKMP};
 use crate::refusal::{self, refuse_if, Refusal};
 use crate::wire::u32_at;
 use std::ops::RangeInclusive;
@@ -16,12 +16,22 @@ const QUICK_SECONDS: RangeInclusive<u32> = 1..=3_600;
 const MODES: RangeInclusive<u8> = 1..=4;
 
 /// The values of a life type that mean something.
-const SECONDS: u64 = 1;
-const KILOBYTES: u64 = 2;
+pub const SECONDS: u64 = 1;
+pub const KILOBYTES: u64 = 2;
 
 pub struct Book {
     pub main: Vec<Line>,
     pub quick: Vec<Line>,
+}
+
+impl Book {
+    pub fn lines(&self, exchange: u8) -> &[Line] {
+        if exchange == MAIN_MODE {
+            &self.main
+        } else {
+            &self.quick
+        }
+    }
 }
 
 pub enum Line {
@@ -93,11 +103,9 @@ pub fn choose<'a>(book_bytes: &[u8], message: &'a [u8]) -> Result<Choice<'a>, Re
 /// A message that was read has one SA payload at most.
 pub fn choose_from<'a>(book: &Book, message: &'a [u8], reading: &Reading) -> Result<Choice<'a>, Refusal> {
     let body = reading.sa_body(message).ok_or(refusal::MALFORMED)?;
-    let lines = if reading.exchange == MAIN_MODE { &book.main } else { &book.quick };
     let proposals: Vec<_> = offer::proposals(body).collect();
-    // Proposals with equal number stand behind each other, as numbers do not fall.
-    for set in proposals.chunk_by(|one, next| one.number == next.number) {
-        for (line, place) in lines.iter().zip(1..) {
+    for set in offer::sets(&proposals) {
+        for (line, place) in book.lines(reading.exchange).iter().zip(1..) {
             if let Some(taken) = suiting(set, line) {
                 return Ok(Choice { set: set[0].number, line: place, taken });
             }
@@ -108,59 +116,72 @@ pub fn choose_from<'a>(book: &Book, message: &'a [u8], reading: &Reading) -> Res
 
 /// The lowest suiting transform of every proposal, if the set suits the line.
 fn suiting<'a>(set: &[Proposal<'a>], line: &Line) -> Option<Vec<Taken<'a>>> {
-    // A protocol stands in a set once, and one that the line does not have has no suiting transform.
-    if set.len() != line.protocols() {
+    if !line.has_protocols_of(set) {
         return None;
     }
     let lowest = |proposal: &Proposal<'a>| {
         let &Proposal { protocol, spi, .. } = proposal;
-        let transform = proposal.transforms().find(|transform| line.suits(protocol, transform))?;
+        let transform = proposal.transforms().find(|transform| line.wants(protocol).suits(transform))?;
         Some(Taken { protocol, spi, transform })
     };
     set.iter().map(lowest).collect()
 }
 
+/// What a line wants of a transform.
+pub struct Wanted {
+    pub id: u8,
+    /// Types and values in document 01's order; the life type's value 1 stands for a lifetime in seconds.
+    pub attributes: Vec<(u16, u64)>,
+    pub most_seconds: u64,
+}
+
 impl Line {
-    /// How many protocols it has.
-    fn protocols(&self) -> usize {
+    pub fn protocols(&self) -> &'static [u8] {
         match self {
-            Line::Main { .. } | Line::EspAlone { .. } => 1,
-            Line::AhWithEsp { .. } => 2,
+            Line::Main { .. } => &[ISAKMP],
+            Line::EspAlone { .. } => &[ESP],
+            Line::AhWithEsp { .. } => &[AH, ESP],
         }
     }
 
-    fn suits(&self, protocol: u8, transform: &Transform) -> bool {
-        match (self, protocol) {
-            (&Line::Main { seconds }, ISAKMP) => {
-                transform.id == 1 && has_exactly(transform, &[(1, 129), (2, 20), (3, 10), (20, 2)], seconds)
-            }
-            (&Line::AhWithEsp { mode, seconds }, AH) => {
-                transform.id == 20 && has_exactly(transform, &[(4, mode.into()), (5, 20)], seconds)
-            }
-            (&Line::EspAlone { mode, seconds }, ESP) => {
-                transform.id == 129 && has_exactly(transform, &[(4, mode.into()), (5, 20)], seconds)
-            }
-            (&Line::AhWithEsp { mode, seconds }, ESP) => {
-                transform.id == 129 && has_exactly(transform, &[(4, mode.into())], seconds)
-            }
-            _ => false,
+    /// Whether a set's protocols are exactly the line's; a protocol stands in a set once.
+    pub fn has_protocols_of(&self, set: &[Proposal]) -> bool {
+        let protocols = self.protocols();
+        set.len() == protocols.len() && set.iter().all(|proposal| protocols.contains(&proposal.protocol))
+    }
+
+    pub fn seconds(&self) -> u32 {
+        match *self {
+            Line::Main { seconds } | Line::EspAlone { seconds, .. } | Line::AhWithEsp { seconds, .. } => seconds,
         }
+    }
+
+    /// What a transform of that protocol, which is one of the line's, must have.
+    pub fn wants(&self, protocol: u8) -> Wanted {
+        let (id, attributes) = match (self, protocol) {
+            (Line::Main { .. }, _) => (1, vec![(1, 129), (2, 20), (3, 10), (20, 2), (11, SECONDS)]),
+            (&Line::AhWithEsp { mode, .. }, AH) => (20, vec![(4, mode.into()), (1, SECONDS), (5, 20)]),
+            (&Line::AhWithEsp { mode, .. }, _) => (129, vec![(4, mode.into()), (1, SECONDS)]),
+            (&Line::EspAlone { mode, .. }, _) => (129, vec![(4, mode.into()), (1, SECONDS), (5, 20)]),
+        };
+        Wanted { id, attributes, most_seconds: self.seconds().into() }
     }
 }
 
-/// These types with these values and no others, and "seconds within the line and, if present, kilobytes of at least 1".
-fn has_exactly(transform: &Transform, wanted: &[(u16, u64)], most_seconds: u32) -> bool {
-    let (singles, lifetimes) = (transform.singles(), transform.lifetimes());
-    let lasts = |&(life_type, duration): &(u64, u64)| match life_type {
-        SECONDS => (1..=most_seconds.into()).contains(&duration),
-        KILOBYTES => duration >= 1,
-        _ => false,
-    };
-    // No type and no life type value occurs twice, so that as many as are wanted, each of them wanted, are all of them.
-    singles.len() == wanted.len()
-        && singles.iter().all(|single| wanted.contains(single))
-        && lifetimes.iter().any(|&(life_type, _)| life_type == SECONDS)
-        && lifetimes.iter().all(lasts)
+impl Wanted {
+    /// All that is wanted and nothing else, and "seconds within the line and, if present, kilobytes of at least 1".
+    fn suits(&self, transform: &Transform) -> bool {
+        let wholes = transform.wholes();
+        let is_there =
+            |&(kind, value): &(u16, u64)| wholes.iter().any(|whole| (whole.kind, whole.value) == (kind, value));
+        let is_wanted = |whole: &Whole| match (whole.duration, whole.value) {
+            (None, value) => self.attributes.contains(&(whole.kind, value)),
+            (Some(duration), SECONDS) => (1..=self.most_seconds).contains(&duration),
+            (Some(duration), KILOBYTES) => duration >= 1,
+            (Some(_), _) => false,
+        };
+        transform.id == self.id && self.attributes.iter().all(is_there) && wholes.iter().all(is_wanted)
+    }
 }
 
 #[cfg(test)]
@@ -188,7 +209,7 @@ mod tests {
                 let exchange = if protocol == ISAKMP { MAIN_MODE } else { QUICK_MODE };
                 assert_eq!(offer::check(exchange, &body), Ok(()));
                 let set: Vec<_> = offer::proposals(&body).collect();
-                answers.push(set[0].transforms().all(|transform| line.suits(protocol, &transform)));
+                answers.push(set[0].transforms().all(|transform| line.wants(protocol).suits(&transform)));
             }
         }
         answers.dedup();

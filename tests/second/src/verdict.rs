@@ -9,17 +9,23 @@ use std::io::{self, Read, Write};
 const COUNTED: u64 = 8_275;
 
 pub fn answer(input: impl Read, output: &mut impl Write) -> io::Result<()> {
-    let mut bytes = Vec::new();
-    input.take(COUNTED).read_to_end(&mut bytes)?;
+    let bytes = counted(input)?;
     output.write_all(verdict(&bytes).as_bytes())?;
     output.flush()
+}
+
+/// What counts of an input.
+pub fn counted(input: impl Read) -> io::Result<Vec<u8>> {
+    let mut bytes = Vec::new();
+    input.take(COUNTED).read_to_end(&mut bytes)?;
+    Ok(bytes)
 }
 
 fn verdict(bytes: &[u8]) -> String {
     lines(bytes).unwrap_or_else(refused)
 }
 
-fn refused(number: Refusal) -> String {
+pub fn refused(number: Refusal) -> String {
     format!("refused {number}\n")
 }
 
