@@ -31,6 +31,8 @@ pub enum ProgramsOf {
     Verdicts { piece: usize },
     /// The capture programs, likewise.
     Captures { piece: usize },
+    /// The programs that say why, likewise; of the core's own its words are read back. They may be told the book's size.
+    Whys { piece: usize, book_size: Option<usize> },
 }
 
 impl Case {
@@ -103,6 +105,22 @@ impl Cases {
     /// The same with a message that can be read and has an offer.
     pub fn choose_offered(&mut self, book: &[u8], message: &Message, answer: Option<String>) {
         self.choose(book, &message.encode(), answer);
+        self.offers(message);
+    }
+
+    /// A line `why BOOK BYTES`, with its answer where it is known.
+    pub fn why(&mut self, book: &[u8], message: &[u8], answer: Option<String>) {
+        self.line(&format!("why {}", word(book)), message, answer);
+    }
+
+    /// The same with a message that can be read and has an offer.
+    pub fn why_offered(&mut self, book: &[u8], message: &Message, answer: Option<String>) {
+        self.why(book, &message.encode(), answer);
+        self.offers(message);
+    }
+
+    /// What the case that was made last offers.
+    fn offers(&mut self, message: &Message) {
         let offer = message.payloads.iter().find_map(|payload| payload.offer());
         self.made.last_mut().expect("it was made").offer = offer.cloned();
     }
@@ -150,6 +168,22 @@ impl Cases {
     pub fn capture(&mut self, input: Vec<u8>, piece: usize, book: Option<&[u8]>, lines: Option<Vec<String>>) {
         self.add(input, vec![lines.map(|lines| lines.join(LINE_END_SHOWN))], ProgramsOf::Captures { piece });
         self.made.last_mut().expect("it was made").book = book.map(<[u8]>::to_vec);
+    }
+
+    /// A book and a message that a pair of programs gets to read, and what it tells of them, line by line, where that is
+    /// known.
+    pub fn told(&mut self, input: Vec<u8>, book_size: Option<usize>, lines: Option<Vec<String>>) {
+        self.told_in_pieces(input, usize::MAX, book_size, lines);
+    }
+
+    pub fn told_in_pieces(
+        &mut self,
+        input: Vec<u8>,
+        piece: usize,
+        book_size: Option<usize>,
+        lines: Option<Vec<String>>,
+    ) {
+        self.add(input, vec![lines.map(|lines| lines.join(LINE_END_SHOWN))], ProgramsOf::Whys { piece, book_size });
     }
 
     fn add(&mut self, input: Vec<u8>, answers: Vec<Option<String>>, programs: ProgramsOf) {

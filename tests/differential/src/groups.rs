@@ -27,6 +27,8 @@ mod sequence_packets;
 mod sequence_table;
 mod sequence_window;
 mod verdicts;
+mod why;
+mod why_words;
 
 use crate::cases::{Case, Cases};
 use crate::random::Random;
@@ -88,7 +90,9 @@ pub const ALL: &[Group] = &[
     choices::GROUP,
     lifetimes::GROUP,
     replies::GROUP,
+    why::GROUP,
     verdicts::GROUP,
+    why_words::GROUP,
     captures::GROUP,
     ends::GROUP,
     deliveries::GROUP,

@@ -2,6 +2,7 @@
 
 mod capture;
 pub mod cases;
+mod causes;
 mod checks;
 pub mod compare;
 mod damage;
@@ -18,6 +19,7 @@ mod random;
 mod sequence;
 mod tree;
 mod wild;
+pub mod words;
 
 /// The seed of the ordinary run.
 pub const DEFAULT_SEED: u64 = 36_968;

@@ -1,5 +1,5 @@
-//! Feeds the same lines to `bench` and to the second program, the same books and messages to `verdict` and the same captures
-//! to `capture` and to the second program's own, and compares every answer; see ../README.md.
+//! Feeds the same lines to `bench` and to the second program, the same books and messages to `verdict` and `why` and the
+//! same captures to `capture` and to the second program's own, and compares every answer; see ../README.md.
 
 use differential::cases::{Case, LINE_END_SHOWN};
 use differential::compare::{compare, Comparison, Difference};
@@ -31,7 +31,7 @@ struct Request {
 
 fn request(mut arguments: impl Iterator<Item = String>) -> Option<Request> {
     let mut program = || arguments.next().map(PathBuf::from);
-    let programs = Programs::new([program()?, program()?, program()?, program()?]);
+    let programs = Programs::new([program()?, program()?, program()?, program()?, program()?]);
     let groups = groups::ALL.iter().collect();
     let mut request = Request { programs, seed: DEFAULT_SEED, groups, case: None };
     while let Some(option) = arguments.next() {
@@ -55,7 +55,7 @@ fn request(mut arguments: impl Iterator<Item = String>) -> Option<Request> {
 
 fn usage() -> ! {
     let names: Vec<_> = groups::ALL.iter().map(|group| group.name).collect();
-    eprintln!("usage: differential BENCH SECOND VERDICT CAPTURE [--seed N] [--only GROUP,.. | --only GROUP:CASE]");
+    eprintln!("usage: differential BENCH SECOND VERDICT CAPTURE WHY [--seed N] [--only GROUP,.. | --only GROUP:CASE]");
     eprintln!("groups: {}", names.join(", "));
     std::process::exit(2)
 }
@@ -249,12 +249,13 @@ fn show(request: &Request, group: &Group, case: &Case, difference: &Difference) 
         format!("  second  {}", shortened(&answer(&difference.second))),
         format!("  known   {known}"),
         format!(
-            "  {}: differential {} {} {} {} --seed {} --only {}:{number}",
+            "  {}: differential {} {} {} {} {} --seed {} --only {}:{number}",
             if group.in_order { "all lines up to this one" } else { "this case alone and whole" },
             request.programs.bench.display(),
             request.programs.second.display(),
             request.programs.verdict.display(),
             request.programs.capture.display(),
+            request.programs.why.display(),
             request.seed,
             group.name
         ),
@@ -288,8 +289,12 @@ fn kinds_of(group: &Group, answer: &str) -> Vec<String> {
     kinds.split_off(kinds.len().saturating_sub(1))
 }
 
-/// What a line says without its numbers, bytes, places and addresses; a refusal keeps its number.
+/// What a line says without its numbers, bytes, places and addresses; a refusal keeps its number. What is said of every
+/// set and line has no end of kinds, and is one.
 fn kind_of(line: &str) -> String {
+    if line.split(' ').next() == Some("why") {
+        return "why".to_string();
+    }
     let (said, refusal) = line.split_at(line.find("refused ").unwrap_or(line.len()));
     let is_of_value = |byte: u8| matches!(byte, b'0'..=b'9' | b'a'..=b'f' | b'@' | b'+' | b'-');
     // All bytes are looked at, which is faster for long words than to stop at the first that is none.
@@ -340,6 +345,8 @@ mod tests {
         assert_eq!(kind_of("kept - ff"), "kept");
         assert_eq!(kind_of("refused 16"), "refused 16");
         assert_eq!(kind_of("bad line"), "bad line");
+        assert_eq!(kind_of("why set 1 line 2 protocols"), "why");
+        assert_eq!(kind_of("set 1 line 2 of 2+3 mode 1 to 3600 protocols 3"), "set line of mode to protocols");
         assert_eq!(kind_of("payload 1 at 28 length 52"), "payload at length");
         assert_eq!(kind_of("  chosen set 1 line 2 transforms 3 4"), "chosen set line transforms");
         assert_eq!(kind_of("1 at 24 cut short"), "cut short");

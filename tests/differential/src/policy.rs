@@ -274,7 +274,7 @@ fn unwanted(random: &mut Random, transform: &Transform) -> u16 {
 }
 
 /// Puts an item in anywhere.
-fn put_in(random: &mut Random, line: &Line, transform: &mut Transform, item: Item) {
+pub fn put_in(random: &mut Random, line: &Line, transform: &mut Transform, item: Item) {
     let place = random_border(random, line.exchange(), &transform.attributes);
     transform.attributes.splice(place..place, item);
 }
@@ -292,14 +292,14 @@ fn replace_wanted(random: &mut Random, line: &Line, transform: &mut Transform, r
     transform.attributes = items.concat();
 }
 
-fn take_out(line: &Line, transform: &mut Transform, value: u16) {
+pub fn take_out(line: &Line, transform: &mut Transform, value: u16) {
     let mut items = items(line.exchange(), &transform.attributes);
     items.retain(|item| !is_lifetime(line, item, value));
     transform.attributes = items.concat();
 }
 
 /// The lifetime of that life type lasts so long, whether the transform had one or not.
-fn set_lifetime(random: &mut Random, line: &Line, transform: &mut Transform, value: u16, number: u32) {
+pub fn set_lifetime(random: &mut Random, line: &Line, transform: &mut Transform, value: u16, number: u32) {
     take_out(line, transform, value);
     let lifetime = lasting_lifetime(random, line.exchange(), value, number);
     put_in(random, line, transform, lifetime);

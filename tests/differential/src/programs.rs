@@ -1,6 +1,7 @@
-//! Runs two programs on the same input: `bench` and the second program, or `verdict` or `capture` and the second
+//! Runs two programs on the same input: `bench` and the second program, or `verdict`, `capture` or `why` and the second
 //! program's own.
 
+use crate::words;
 use std::io::{Read, Write};
 use std::path::PathBuf;
 use std::process::{self, Command, Stdio};
@@ -23,6 +24,7 @@ pub struct Programs {
     pub second: PathBuf,
     pub verdict: PathBuf,
     pub capture: PathBuf,
+    pub why: PathBuf,
     started: Instant,
 }
 
@@ -52,8 +54,8 @@ pub struct Run {
 }
 
 impl Programs {
-    pub fn new([bench, second, verdict, capture]: [PathBuf; 4]) -> Programs {
-        Programs { bench, second, verdict, capture, started: Instant::now() }
+    pub fn new([bench, second, verdict, capture, why]: [PathBuf; 5]) -> Programs {
+        Programs { bench, second, verdict, capture, why, started: Instant::now() }
     }
 
     /// Both run at once; `bench` stands first.
@@ -78,6 +80,18 @@ impl Programs {
             program.args(file.iter().map(|file| &file.0));
         }
         self.run_both(capture, second, pieces)
+    }
+
+    /// Both run at once; `why` stands first, with its words read back.
+    pub fn run_whys(&self, pieces: Vec<Vec<u8>>, book_size: Option<usize>) -> [Run; 2] {
+        let (mut why, mut second) = (Command::new(&self.why), Command::new(&self.second));
+        second.arg("why");
+        for program in [&mut why, &mut second] {
+            program.args(book_size.map(|size| size.to_string()));
+        }
+        let [mut why, second] = self.run_both(why, second, pieces);
+        why.output = words::read_back(&why.output);
+        [why, second]
     }
 
     fn run_both(&self, core: Command, second: Command, pieces: Vec<Vec<u8>>) -> [Run; 2] {

@@ -2,7 +2,7 @@
 //! look for a difference between that mutant and the core; see ../README.md. What is changed is said in scan.rs, which
 //! finds it by rules, and in named.rs.
 //!
-//! `mutants BENCH VERDICT CAPTURE SOURCES PAGE FOLDER [TEXT..]`: the core's programs, the folder of the second program's sources,
+//! `mutants BENCH VERDICT CAPTURE WHY SOURCES PAGE FOLDER [TEXT..]`: the core's programs, the folder of the second program's sources,
 //! the page with the table of mutants that no input could show, and a folder to build in. With texts only the mutants
 //! whose file and change hold one of them are tried.
 
@@ -28,16 +28,16 @@ use workshop::{Build, Workshop};
 
 /// Which groups are tried first for a source, as they are made for its rules.
 const FIRST_GROUPS: &[(&str, &[&str])] = &[
-    ("bench.rs", &["lines", "sequence-lines", "port", "identities", "choices", "frames"]),
+    ("bench.rs", &["lines", "sequence-lines", "port", "identities", "choices", "why", "frames"]),
     ("capture.rs", &["captures"]),
     ("der.rs", &["der-small", "der-lengths", "der-trees", "der-damage"]),
     ("frame.rs", &["frames"]),
     ("identity.rs", &["identities"]),
     ("lines.rs", &["lines", "sequence-lines", "ends", "replies"]),
-    ("main.rs", &["port", "verdicts", "captures"]),
+    ("main.rs", &["port", "verdicts", "captures", "why-words"]),
     ("message.rs", &["message-checks", "messages", "message-damage", "ends"]),
-    ("offer.rs", &["offer-checks", "lifetimes", "offer-damage", "choices"]),
-    ("policy.rs", &["books", "choices", "lifetimes"]),
+    ("offer.rs", &["offer-checks", "lifetimes", "offer-damage", "choices", "why"]),
+    ("policy.rs", &["books", "choices", "lifetimes", "why"]),
     ("port4500.rs", &["port", "frames"]),
     ("quick.rs", &["ends", "deliveries", "exchanges"]),
     ("quick_lines.rs", &["ends", "deliveries", "exchanges"]),
@@ -46,17 +46,22 @@ const FIRST_GROUPS: &[(&str, &[&str])] = &[
     ("refusal.rs", &["message-checks", "sequence-table", "books", "replies", "ends", "captures"]),
     ("reply.rs", &["replies", "ends"]),
     ("sequence.rs", &["sequence-packets", "sequence-window", "sequence-table"]),
-    ("verdict.rs", &["verdicts"]),
+    ("verdict.rs", &["verdicts", "why-words"]),
+    ("why.rs", &["why", "why-words"]),
     ("wire.rs", &["message-checks", "sequence-packets"]),
     ("write.rs", &["replies", "ends", "deliveries"]),
 ];
 
-/// The sources that neither `second verdict` nor `second capture` comes to: there their many runs could show nothing.
+/// The sources that none of `second verdict`, `second capture` and `second why` comes to: there their many runs could show
+/// nothing.
 const OF_LINES_ALONE: &[&str] =
     &["bench.rs", "lines.rs", "quick.rs", "quick_lines.rs", "quick_messages.rs", "reply.rs", "write.rs"];
 
-/// Those that `second capture` comes to and `second verdict` does not.
+/// Those that of these only `second capture` comes to.
 const OF_CAPTURES: &[&str] = &["capture.rs", "frame.rs", "port4500.rs", "record.rs", "sequence.rs"];
+
+/// Those that of these only `second why` comes to.
+const OF_WHYS: &[&str] = &["why.rs"];
 
 /// So many runs are tried with a program that is built soon; one that is still unnoticed is built for all of them.
 const RUNS_OF_A_SOON_BUILD: usize = 12;
@@ -65,6 +70,7 @@ struct Request {
     bench: PathBuf,
     verdict: PathBuf,
     capture: PathBuf,
+    why: PathBuf,
     sources: PathBuf,
     page: PathBuf,
     folder: PathBuf,
@@ -80,16 +86,16 @@ impl Request {
 }
 
 fn request(arguments: &[String]) -> Option<Request> {
-    let [bench, verdict, capture, sources, page, folder, texts @ ..] = arguments else { return None };
-    let [bench, verdict, capture] = [bench, verdict, capture].map(PathBuf::from);
+    let [bench, verdict, capture, why, sources, page, folder, texts @ ..] = arguments else { return None };
+    let [bench, verdict, capture, why] = [bench, verdict, capture, why].map(PathBuf::from);
     let [sources, page, folder] = [sources, page, folder].map(PathBuf::from);
-    Some(Request { bench, verdict, capture, sources, page, folder, texts: texts.to_vec() })
+    Some(Request { bench, verdict, capture, why, sources, page, folder, texts: texts.to_vec() })
 }
 
 fn main() -> ExitCode {
     let arguments: Vec<String> = std::env::args().skip(1).collect();
     let Some(request) = request(&arguments) else {
-        eprintln!("usage: mutants BENCH VERDICT CAPTURE SOURCES PAGE FOLDER [TEXT..]");
+        eprintln!("usage: mutants BENCH VERDICT CAPTURE WHY SOURCES PAGE FOLDER [TEXT..]");
         return ExitCode::from(2);
     };
     match try_all(&request) {
@@ -133,7 +139,8 @@ fn try_all(request: &Request) -> Result<bool, String> {
     stale.iter().for_each(|line| println!("{line}"));
 
     let workshop = Workshop::new(request.folder.clone(), &sources)?;
-    let mut trier = Trier::new(trials::all([&request.bench, &request.verdict, &request.capture])?, workshop)?;
+    let Request { bench, verdict, capture, why, .. } = request;
+    let mut trier = Trier::new(trials::all([bench, verdict, capture, why])?, workshop)?;
     let mut log = File::create(request.folder.join("log")).map_err(|error| error.to_string())?;
     let mut tally = Tally { wrong_entries: stale.len(), ..Tally::default() };
     for (source, mutation) in mutants.iter().filter(|(_, mutation)| request.asks_for(mutation)) {
@@ -256,8 +263,9 @@ impl Trier {
         };
         let is_reached = |run: &usize| match self.trials[*run].programs {
             ProgramsOf::Lines | ProgramsOf::LinesAlone => true,
-            ProgramsOf::Verdicts { .. } => !OF_LINES_ALONE.contains(&file) && !OF_CAPTURES.contains(&file),
-            ProgramsOf::Captures { .. } => !OF_LINES_ALONE.contains(&file),
+            ProgramsOf::Verdicts { .. } => ![OF_LINES_ALONE, OF_CAPTURES, OF_WHYS].concat().contains(&file),
+            ProgramsOf::Captures { .. } => ![OF_LINES_ALONE, OF_WHYS].concat().contains(&file),
+            ProgramsOf::Whys { .. } => ![OF_LINES_ALONE, OF_CAPTURES].concat().contains(&file),
         };
         let mut order: Vec<usize> = (0..self.trials.len()).filter(is_reached).collect();
         order.sort_by_key(rank);

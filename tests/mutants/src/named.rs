@@ -15,23 +15,24 @@ const NAMED: &[(&str, &str)] = &[
     ("offer.rs", "«before.contains(&this)→(before.last() == Some(&this))»"),
     ("offer.rs", "«before.iter().any→before.last().is_some_and»(is_repeated)"),
     ("offer.rs", "«other.digits() == this.digits()→other.number() as u32 == this.number() as u32»"),
+    ("offer.rs", "proposals«.chunk_by(|one, next| one.number == next.number)→.chunks(1)»"),
     ("offer.rs", "more_proposals: «false→true»"),
     ("offer.rs", "more_proposals: «true→false»"),
     ("offer.rs", "protocols: &[«AH, ESP→AH»]"),
     ("offer.rs", "protocols: &[«AH, ESP→ESP»]"),
     ("offer.rs", "protocols: &[«AH, ESP→ISAKMP, AH, ESP»]"),
     ("offer.rs", "protocols: &[«ISAKMP→ISAKMP, AH»]"),
-    ("policy.rs", "transforms()«.find(|transform| line.suits(protocol, transform))\
-                   →.filter(|transform| line.suits(protocol, transform)).last()»"),
-    ("policy.rs", "singles.iter().«all→any»("),
-    ("policy.rs", "lifetimes.iter().«all→any»(lasts)"),
+    ("policy.rs", "transforms()«.find(|transform| line.wants(protocol).suits(transform))\
+                   →.filter(|transform| line.wants(protocol).suits(transform)).last()»"),
+    ("policy.rs", "attributes.iter().«all→any»(is_there)"),
+    ("policy.rs", "wholes.iter().«all→any»(is_wanted)"),
+    ("policy.rs", "(Some(duration), KILOBYTES) => duration >= 1,\n            (Some(_), _) => «false→true»"),
     ("policy.rs", "«MODES→(0..=5)».contains(&bytes[1])"),
     ("policy.rs", "«MAIN_SECONDS.contains(&seconds).then_some(Line::Main { seconds })→Some(Line::Main { seconds })»"),
-    ("policy.rs", "proposals«.chunk_by(|one, next| one.number == next.number)→.chunks(1)»"),
-    ("policy.rs", "«for set in proposals.chunk_by(|one, next| one.number == next.number) {\n        \
-                   for (line, place) in lines.iter().zip(1..) {\
-                   →for (line, place) in lines.iter().zip(1..) {\n        \
-                   for set in proposals.chunk_by(|one, next| one.number == next.number) {»"),
+    ("policy.rs", "«for set in offer::sets(&proposals) {\n        \
+                   for (line, place) in book.lines(reading.exchange).iter().zip(1..) {\
+                   →for (line, place) in book.lines(reading.exchange).iter().zip(1..) {\n        \
+                   for set in offer::sets(&proposals) {»"),
     ("port4500.rs", "«[u8; 4] = [0; 4]→[u8; 3] = [0; 3]»"),
     ("port4500.rs", "«[u8; 4] = [0; 4]→[u8; 5] = [0; 5]»"),
     ("quick.rs", "[«self.sent, →»self.got, self.output]"),
@@ -65,6 +66,31 @@ const NAMED: &[(&str, &str)] = &[
     ("sequence.rs", "self.lives«.insert(key, Life::default())→.entry(key).or_default()»;"),
     ("sequence.rs", "«life.sent.checked_add(1)→Some(life.sent.wrapping_add(1))»"),
     ("verdict.rs", "«input.take(COUNTED).read_to_end(&mut bytes)→{ let mut input = input; input.read_to_end(&mut bytes) }»"),
+    ("why.rs", "into_iter().«min→max»()"),
+    ("why.rs", "«Missing { among_wanted: usize, kind: u16 }→Missing { kind: u16, among_wanted: usize }»"),
+    ("why.rs", "«Surplus { in_offer: usize, kind: u16, life_type: Option<u64> }\
+                →Surplus { kind: u16, in_offer: usize, life_type: Option<u64> }»"),
+    ("why.rs", "«Id { found: u8, wanted: u8 },\n    Missing { among_wanted: usize, kind: u16 },\
+                →Missing { among_wanted: usize, kind: u16 },\n    Id { found: u8, wanted: u8 },»"),
+    ("why.rs", "«Missing { among_wanted: usize, kind: u16 },\n    \
+                Value { among_wanted: usize, kind: u16, found: u64, wanted: u64 },\
+                →Value { among_wanted: usize, kind: u16, found: u64, wanted: u64 },\n    \
+                Missing { among_wanted: usize, kind: u16 },»"),
+    ("why.rs", "«Value { among_wanted: usize, kind: u16, found: u64, wanted: u64 },\n    \
+                Surplus { in_offer: usize, kind: u16, life_type: Option<u64> },\
+                →Surplus { in_offer: usize, kind: u16, life_type: Option<u64> },\n    \
+                Value { among_wanted: usize, kind: u16, found: u64, wanted: u64 },»"),
+    ("why.rs", "«Surplus { in_offer: usize, kind: u16, life_type: Option<u64> },\n    Seconds { found: u64, most: u64 },\
+                →Seconds { found: u64, most: u64 },\n    Surplus { in_offer: usize, kind: u16, life_type: Option<u64> },»"),
+    ("why.rs", "«Seconds { found: u64, most: u64 },\n    Kilobytes { found: u64 },\
+                →Kilobytes { found: u64 },\n    Seconds { found: u64, most: u64 },»"),
+    ("why.rs", "life_type: «Some(life_type)→None» })"),
+    ("why.rs", "«protocols.sort();→»"),
+    ("why.rs", "«whole.duration.is_none() || →»whole.value == value"),
+    ("why.rs", "«for set in offer::sets(&proposals) {\n        \
+                for (line, place) in book.lines(exchange).iter().zip(1..) {\
+                →for (line, place) in book.lines(exchange).iter().zip(1..) {\n        \
+                for set in offer::sets(&proposals) {»"),
 ];
 
 /// All of them for a source, at each place of the text; a text that is not there is an error, as then nothing is tried.

@@ -4,7 +4,7 @@
 use differential::cases::ProgramsOf;
 use differential::compare::{input_of, runs_of};
 use differential::programs::{run, BookFile, Run};
-use differential::{groups, DEFAULT_SEED};
+use differential::{groups, words, DEFAULT_SEED};
 use std::hash::{DefaultHasher, Hasher};
 use std::path::Path;
 use std::process::{Command, Stdio};
@@ -37,7 +37,7 @@ fn digest(output: &[u8]) -> Digest {
 }
 
 /// All runs with the seed of the ordinary run.
-pub fn all([bench, verdict, capture]: [&Path; 3]) -> Result<Vec<Trial>, String> {
+pub fn all([bench, verdict, capture, why]: [&Path; 4]) -> Result<Vec<Trial>, String> {
     let mut trials = Vec::new();
     for group in groups::ALL {
         let cases = group.cases(DEFAULT_SEED);
@@ -49,17 +49,29 @@ pub fn all([bench, verdict, capture]: [&Path; 3]) -> Result<Vec<Trial>, String> 
                 ProgramsOf::Lines | ProgramsOf::LinesAlone => bench,
                 ProgramsOf::Verdicts { .. } => verdict,
                 ProgramsOf::Captures { .. } => capture,
+                ProgramsOf::Whys { .. } => why,
             });
-            core.args(book.iter().map(|file| &file.0)).stderr(Stdio::null());
-            let Run { output, failure } = run(core, &input, PATIENCE);
+            core.args(book.iter().map(|file| &file.0)).args(book_size(case.programs)).stderr(Stdio::null());
+            let Run { mut output, failure } = run(core, &input, PATIENCE);
             if let Some(failure) = failure {
                 return Err(format!("{}: the core failed: {failure}", group.name));
+            }
+            if let ProgramsOf::Whys { .. } = case.programs {
+                output = words::read_back(&output);
             }
             let (programs, answers) = (case.programs, digest(&output));
             trials.push(Trial { group: group.name, programs, input, book, answers });
         }
     }
     Ok(trials)
+}
+
+/// What programs that say why may be told.
+fn book_size(programs: ProgramsOf) -> Option<String> {
+    match programs {
+        ProgramsOf::Whys { book_size, .. } => book_size.map(|size| size.to_string()),
+        _ => None,
+    }
 }
 
 impl Trial {
@@ -72,6 +84,7 @@ impl Trial {
             ProgramsOf::Lines | ProgramsOf::LinesAlone => &mut limited,
             ProgramsOf::Verdicts { .. } => limited.arg("verdict"),
             ProgramsOf::Captures { .. } => limited.arg("capture").args(self.book.iter().map(|file| &file.0)),
+            ProgramsOf::Whys { .. } => limited.arg("why").args(book_size(self.programs)),
         };
         let Run { output, failure } = run(limited, &self.input, PATIENCE);
         let unlike = || (digest(&output) != self.answers).then(|| "other answers".to_string());

@@ -58,7 +58,7 @@ pub const GROUP: Group = Group {
         ("largest offer and largest book", largest),
         ("no line for the exchange", no_lines),
         ("no SA payload", no_sa_payload),
-        ("check of a reading broken", checks_broken),
+        (CHECKS_BROKEN, checks_broken),
         ("unlawful book", unlawful_books),
         ("near offers and books at random", near_at_random),
         ("any message and any book", any_message),
@@ -71,6 +71,9 @@ pub const GROUP: Group = Group {
 
 /// The kind in which sets, lines and transforms other than the first are chosen.
 pub const PLANTED: &str = "planted set, line and transform";
+
+/// The kind in which every refusal of a reading occurs.
+pub const CHECKS_BROKEN: &str = "check of a reading broken";
 
 /// The kind of which not every case is a pair.
 pub const WORDS: &str = "words of the line";

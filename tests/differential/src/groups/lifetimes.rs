@@ -146,18 +146,18 @@ const OCCASIONS: &[Occasion] = occasions! {
     100 "chosen": "a later transform";
 };
 
-const PHASES: [u8; 2] = [MAIN_MODE, QUICK_MODE];
+pub const PHASES: [u8; 2] = [MAIN_MODE, QUICK_MODE];
 const FORMS: [&str; 2] = ["fixed", "variable"];
 
 /// Between the words of a detail.
 const BETWEEN: &str = "; ";
 
-fn occurs(case: &Case, answers: &[String], answer: &str, words: &[&str]) -> bool {
+pub fn occurs(case: &Case, answers: &[String], answer: &str, words: &[&str]) -> bool {
     let is_said = |word: &&str| case.detail.split(BETWEEN).any(|said| said == *word);
     answers.first().is_some_and(|given| given.starts_with(answer)) && words.iter().all(is_said)
 }
 
-fn describe(cases: &mut Cases, exchange: u8, words: &[&str]) {
+pub fn describe(cases: &mut Cases, exchange: u8, words: &[&str]) {
     cases.detail = format!("{}{BETWEEN}exchange {exchange}", words.join(BETWEEN));
 }
 
@@ -766,10 +766,10 @@ fn kilobytes_at_their_limits(random: &mut Random, cases: &mut Cases) {
 }
 
 /// Lifetimes for a line, and whether they suit it.
-struct Lifetimes {
-    seconds: Option<u32>,
-    kilobytes: Option<u32>,
-    third: Option<u16>,
+pub struct Lifetimes {
+    pub seconds: Option<u32>,
+    pub kilobytes: Option<u32>,
+    pub third: Option<u16>,
 }
 
 impl Lifetimes {
@@ -778,7 +778,7 @@ impl Lifetimes {
         seconds && self.kilobytes != Some(0) && self.third.is_none()
     }
 
-    fn items(&self, random: &mut Random, line: &Line) -> Vec<Item> {
+    pub fn items(&self, random: &mut Random, line: &Line) -> Vec<Item> {
         let exchange = line.exchange();
         let lasting = [(SECONDS, self.seconds), (KILOBYTES, self.kilobytes)];
         let lasting = lasting.into_iter().filter_map(|(value, number)| Some((value, number?)));
