@@ -151,6 +151,14 @@ impl Group {
         }
         cases.made
     }
+
+    /// The cases of one of its kinds, for other groups.
+    pub fn of_kind(&self, random: &mut Random, kind: &str) -> Vec<Case> {
+        let (kind, make) = self.kinds.iter().find(|(name, _)| *name == kind).expect("the group has it");
+        let mut cases = Cases { kind, detail: String::new(), made: Vec::new() };
+        make(random, &mut cases);
+        cases.made
+    }
 }
 
 #[cfg(test)]

@@ -382,7 +382,7 @@ fn offers(random: &mut Random, cases: &mut Cases) {
     const OF_EACH_KIND: usize = 13;
     const OF_LATER_LINES: usize = 60;
     for (kind, _) in choices::GROUP.kinds.iter().filter(|(kind, _)| *kind != choices::WORDS) {
-        let made = choices::of_kind(random, kind);
+        let made = choices::GROUP.of_kind(random, kind);
         let most = if *kind == choices::PLANTED { OF_LATER_LINES } else { OF_EACH_KIND };
         for choice in made.iter().step_by(made.len().div_ceil(most)) {
             cases.detail = choice.title();

@@ -78,14 +78,6 @@ pub const CHECKS_BROKEN: &str = "check of a reading broken";
 /// The kind of which not every case is a pair.
 pub const WORDS: &str = "words of the line";
 
-/// The cases of one kind.
-pub fn of_kind(random: &mut Random, kind: &str) -> Vec<Case> {
-    let (kind, make) = GROUP.kinds.iter().find(|(name, _)| *name == kind).expect("the choices have it");
-    let mut cases = Cases { kind, detail: String::new(), made: Vec::new() };
-    make(random, &mut cases);
-    cases.made
-}
-
 /// The chosen proposals with their chosen transforms alone, where something is known to be chosen of a known offer.
 pub fn taken(choice: &Case) -> Option<Vec<Proposal>> {
     let numbers = chosen_numbers(choice.answers[0].as_slice())?;

@@ -224,7 +224,7 @@ fn offers_of_the_choices(random: &mut Random, cases: &mut Cases) {
         "several suiting transforms",
         "largest offer and largest book",
     ] {
-        let made = choices::of_kind(random, kind);
+        let made = choices::GROUP.of_kind(random, kind);
         let is_quick = |case: &&Case| case.offer.as_ref().is_some_and(|offer| offer.proposals[0].protocol != ISAKMP);
         let quick: Vec<_> = made.iter().filter(is_quick).collect();
         for choice in quick.iter().step_by(quick.len().div_ceil(OF_EACH_KIND)) {

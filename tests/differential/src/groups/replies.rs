@@ -91,7 +91,7 @@ fn random_room(random: &mut Random) -> usize {
 
 fn pairs(random: &mut Random, cases: &mut Cases) {
     for (kind, _) in choices::GROUP.kinds.iter().filter(|(kind, _)| *kind != choices::WORDS) {
-        for choice in choices::of_kind(random, kind) {
+        for choice in choices::GROUP.of_kind(random, kind) {
             cases.detail = choice.title();
             let own = random_own(random);
             add(cases, &choice, own);
@@ -131,7 +131,7 @@ fn known(choice: &Case, own: Own) -> Option<String> {
 fn every_spi_in_every_room(random: &mut Random, cases: &mut Cases) {
     const SPIS: [u32; 8] = [0, 1, 255, 256, 257, 65_536, 0x8000_0000, u32::MAX];
     const ROOMS: [usize; 8] = [0, 1, 2_047, 2_048, 2_049, 3_000, 4_095, 4_096];
-    let suiting = choices::of_kind(random, "suiting transform");
+    let suiting = choices::GROUP.of_kind(random, "suiting transform");
     for ah in SPIS {
         for esp in SPIS {
             for room in ROOMS {
@@ -151,7 +151,7 @@ fn first_checks(random: &mut Random, cases: &mut Cases) {
     const NO_SPIS: Own = Own { ah: 0, esp: 0, room: LEAST_ROOM };
     for kind in ["unlawful book", "check of a reading broken", "no SA payload", "no line for the exchange"] {
         cases.detail = kind.to_string();
-        for choice in choices::of_kind(random, kind) {
+        for choice in choices::GROUP.of_kind(random, kind) {
             add_answered(cases, &choice, NO_ROOM, Some(refused(8_192)));
             add_answered(cases, &choice, NO_SPIS, choice.answers[0].clone());
         }

@@ -84,7 +84,7 @@ fn examples(_: &mut Random, cases: &mut Cases) {
 fn pairs(random: &mut Random, cases: &mut Cases) {
     const OF_EACH_KIND: usize = 80;
     for (kind, _) in choices::GROUP.kinds.iter().filter(|(kind, _)| *kind != choices::WORDS) {
-        let made = choices::of_kind(random, kind);
+        let made = choices::GROUP.of_kind(random, kind);
         for choice in made.iter().step_by(made.len().div_ceil(OF_EACH_KIND)) {
             cases.detail = choice.title();
             let [book, message] = choices::pair(choice);

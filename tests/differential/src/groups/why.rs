@@ -257,22 +257,25 @@ pub fn example_of_main_mode(random: &mut Random) -> (Book, Message) {
     (book, message_alone(random, MAIN_MODE, vec![proposal_of(1, 1, Vec::new(), transforms)]))
 }
 
+/// What is said of these two examples.
+pub const SAID_OF_QUICK_MODE: &str = "why set 1 line 1 protocols set 1 line 2 suits \
+    set 2 line 1 protocol 3 transform 1 id protocol 3 transform 2 missing 5 protocol 3 transform 3 missing 1 \
+    protocol 3 transform 4 value 4 protocol 3 transform 5 surplus 6 protocol 3 transform 6 seconds \
+    protocol 3 transform 7 kilobytes protocol 3 transform 8 seconds set 2 line 2 protocols \
+    set 3 line 1 protocol 3 transform 1 surplus 1 set 3 line 2 protocols \
+    set 4 line 1 suits set 4 line 2 protocols \
+    set 5 line 1 protocols \
+    set 5 line 2 protocol 3 transform 1 suits protocol 2 transform 1 id protocol 2 transform 2 missing 5 \
+    set 6 line 1 protocols set 6 line 2 protocols";
+pub const SAID_OF_MAIN_MODE: &str =
+    "why set 1 line 1 suits set 1 line 2 protocol 1 transform 1 value 2 protocol 1 transform 2 seconds";
+
 fn examples(random: &mut Random, cases: &mut Cases) {
     let (book, message) = example_of_quick_mode(random);
-    let known = "why set 1 line 1 protocols set 1 line 2 suits \
-                 set 2 line 1 protocol 3 transform 1 id protocol 3 transform 2 missing 5 protocol 3 transform 3 missing 1 \
-                 protocol 3 transform 4 value 4 protocol 3 transform 5 surplus 6 protocol 3 transform 6 seconds \
-                 protocol 3 transform 7 kilobytes protocol 3 transform 8 seconds set 2 line 2 protocols \
-                 set 3 line 1 protocol 3 transform 1 surplus 1 set 3 line 2 protocols \
-                 set 4 line 1 suits set 4 line 2 protocols \
-                 set 5 line 1 protocols \
-                 set 5 line 2 protocol 3 transform 1 suits protocol 2 transform 1 id protocol 2 transform 2 missing 5 \
-                 set 6 line 1 protocols set 6 line 2 protocols";
-    cases.why_offered(&book.encode(), &message, Some(known.to_string()));
+    cases.why_offered(&book.encode(), &message, Some(SAID_OF_QUICK_MODE.to_string()));
     cases.why_offered(&[0, 0], &message, Some("why".to_string()));
     let (book, message) = example_of_main_mode(random);
-    let known = "why set 1 line 1 suits set 1 line 2 protocol 1 transform 1 value 2 protocol 1 transform 2 seconds";
-    cases.why_offered(&book.encode(), &message, Some(known.to_string()));
+    cases.why_offered(&book.encode(), &message, Some(SAID_OF_MAIN_MODE.to_string()));
     cases.why_offered(&[0, 0], &message, Some("why".to_string()));
 }
 
@@ -666,7 +669,7 @@ fn filling(bytes: usize) -> [(&'static str, &'static str, usize); 2] {
 fn pairs_of_the_choices(random: &mut Random, cases: &mut Cases) {
     const OF_EACH_KIND: usize = 1_000;
     for (kind, _) in choices::GROUP.kinds.iter().filter(|(kind, _)| *kind != choices::WORDS) {
-        let made = choices::of_kind(random, kind);
+        let made = choices::GROUP.of_kind(random, kind);
         let most = if *kind == choices::CHECKS_BROKEN { made.len() } else { OF_EACH_KIND };
         for choice in made.iter().step_by(made.len().div_ceil(most)) {
             cases.detail = choice.title();
@@ -676,14 +679,6 @@ fn pairs_of_the_choices(random: &mut Random, cases: &mut Cases) {
             cases.made.last_mut().expect("it was made").offer = choice.offer.clone();
         }
     }
-}
-
-/// The cases of one kind.
-pub fn of_kind(random: &mut Random, kind: &str) -> Vec<Case> {
-    let (kind, make) = GROUP.kinds.iter().find(|(name, _)| *name == kind).expect("the group has it");
-    let mut cases = Cases { kind, detail: String::new(), made: Vec::new() };
-    make(random, &mut cases);
-    cases.made
 }
 
 fn words(_: &mut Random, cases: &mut Cases) {
@@ -726,7 +721,7 @@ mod tests {
 
     #[test]
     fn the_longest_answer_is_made_as_long_as_request_three_says() {
-        let made = of_kind(&mut Random::new(1, "why"), "longest answer");
+        let made = GROUP.of_kind(&mut Random::new(1, "why"), "longest answer");
         let lengths = made.iter().map(|case| case.answers[0].as_ref().map(String::len));
         assert_eq!(lengths.max(), Some(Some(LONGEST_ANSWER)));
     }

@@ -116,15 +116,7 @@ fn lines(told: &[&str]) -> Option<Vec<String>> {
 fn examples(random: &mut Random, cases: &mut Cases) {
     let (book, message) = why::example_of_quick_mode(random);
     let known = [
-        "why set 1 line 1 protocols set 1 line 2 suits \
-         set 2 line 1 protocol 3 transform 1 id protocol 3 transform 2 missing 5 protocol 3 transform 3 missing 1 \
-         protocol 3 transform 4 value 4 protocol 3 transform 5 surplus 6 protocol 3 transform 6 seconds \
-         protocol 3 transform 7 kilobytes protocol 3 transform 8 seconds set 2 line 2 protocols \
-         set 3 line 1 protocol 3 transform 1 surplus 1 set 3 line 2 protocols \
-         set 4 line 1 suits set 4 line 2 protocols \
-         set 5 line 1 protocols \
-         set 5 line 2 protocol 3 transform 1 suits protocol 2 transform 1 id protocol 2 transform 2 missing 5 \
-         set 6 line 1 protocols set 6 line 2 protocols",
+        why::SAID_OF_QUICK_MODE,
         "set 1 line 1 of 3 mode 1 to 3600 protocols 2+3",
         "set 1 line 2 of 2+3 mode 1 to 3600 suits",
         "set 2 line 1 of 3 mode 1 to 3600 protocol 3 transform 1 id found 20 wanted 129",
@@ -151,7 +143,7 @@ fn examples(random: &mut Random, cases: &mut Cases) {
     add_both(cases, &[0, 0], &message.encode(), lines(&["why", "no quick lines"]));
     let (book, message) = why::example_of_main_mode(random);
     let known = [
-        "why set 1 line 1 suits set 1 line 2 protocol 1 transform 1 value 2 protocol 1 transform 2 seconds",
+        why::SAID_OF_MAIN_MODE,
         "set 1 line 1 of 1 to 86400 suits",
         "set 1 line 2 of 1 to 3600 protocol 1 transform 1 value 2 found 2 wanted 20",
         "set 1 line 2 of 1 to 3600 protocol 1 transform 2 seconds found 3601 most 3600",
@@ -171,7 +163,7 @@ fn add_both(cases: &mut Cases, book: &[u8], message: &[u8], told: Option<Vec<Str
 fn pairs(random: &mut Random, cases: &mut Cases) {
     let is_of_pairs = |kind: &str| kind != why::EXAMPLES && !why::OTHER_THAN_PAIRS.contains(&kind);
     for (kind, _) in why::GROUP.kinds.iter().filter(|(kind, _)| is_of_pairs(kind)) {
-        let made = why::of_kind(random, kind);
+        let made = why::GROUP.of_kind(random, kind);
         let some = match *kind {
             why::EACH_CAUSE => of_each_detail(&made, 12),
             why::LIFETIMES => of_each_detail(&made, 30),
