@@ -1,11 +1,12 @@
 -- A law for each way out of the functions on what suits.
 use Prim.Native.Nat.{ℕ, zero, suc, _+_, _-_, _≤_, _<_}
-use mathlib.Core.Path.{_≡_, refl, sym, _∙_}
+use mathlib.Core.Path.{_≡_, refl, sym, ap, _∙_}
 use mathlib.Core.List.{List, []}
 use mathlib.Core.Bool.{Bool, true, false, not, _&&_, _||_, and-false}
 use native.Mathlib.Omega.{arith}
 use native.Mathlib.Numerals.{add-one}
-use lib.ListN.{length, take, drop}
+use lib.ListN.{length, take, drop, length-drop}
+use lib.Seq.{drop-drop}
 use lib.Dec.{ltb, leb, eqb}
 use borrow.Author.Tests.{eq-eqb, ne-eqb, lt-ltb, le-ltb, le-leb, not-true, not-false}
 use Rattle.wire_read.specs.Tests.{if_then_else_}
@@ -23,7 +24,7 @@ use Rattle.policy_lines.specs.declared.LineNumber.{LineNumber}
 use Rattle.policy_suits.specs.declared.SuitingTransform.{SuitingTransform}
 use Rattle.policy_suits.specs.declared.SuitingTransform.the-variants.{None, Lowest}
 use Rattle.policy_suits.proofs.Found.{none-found, lowest-found}
-use Rattle.policy_suits.specs.Suits.{present, valueIs, findDuration, secondsOf, kilobytesOf, secondsWithin, hasKilobytes, kilobytesSome, nothingSurplus, mainValues, quickId, quickAuthentication, mainSuits, quickSuits, suitsQuickLine, suitsLine, transformSuits, lowestFrom, lowest, hasTransform, lowestTransform, lowestIn, protocolsAlone, protocolsBoth, protocolsSuit, setSuits}
+use Rattle.policy_suits.specs.Suits.{present, valueIs, isUnit, findDuration, secondsOf, kilobytesOf, secondsWithin, hasKilobytes, kilobytesSome, nothingSurplus, mainValues, quickId, quickAuthentication, mainSuits, quickSuits, suitsQuickLine, suitsLine, transformSuits, lowestFrom, lowest, hasTransform, lowestTransform, lowestIn, protocolsAlone, protocolsBoth, protocolsSuit, setSuits}
 
 pub value-found : (attributetype wanted : ℕ) (attributes found : List ℕ) (v : ℕ) → found ≡ attribute attributetype attributes → v ≡ value found →
     (leb 4 (length found) && eqb v wanted) ≡ valueIs attributetype wanted attributes
@@ -32,35 +33,55 @@ value-found attributetype wanted attributes found v ef ev = rw (← ef, ← ev)
 
 -- ---- lifetimes
 
+module _ (lifetype unit : ℕ) (s : List ℕ) (t : ℕ) (et : t ≡ attributeType s) where
+  pub unit-other : (t ≡ lifetype → ⊥) → false ≡ isUnit lifetype unit s
+  unit-other h = rw (← et, ne-eqb t lifetype h)
+
+  pub unit-value : t ≡ lifetype → (v : ℕ) → v ≡ value s → eqb v unit ≡ isUnit lifetype unit s
+  unit-value h v ev = rw (← et, ← ev, eq-eqb t lifetype h)
+
 duration-step : (left lifetype unit : ℕ) (s : List ℕ) → (left ≡ 0 → ⊥) →
     findDuration left lifetype unit s
     ≡ (if ltb (length s) 4 then []
-    else if eqb (attributeType s) lifetype && eqb (value s) unit then take (attributeSize (afterAttribute s)) (afterAttribute s)
+    else if isUnit lifetype unit s then take (attributeSize (afterAttribute s)) (afterAttribute s)
     else findDuration (left - 1) lifetype unit (afterAttribute s))
 unfolding findDuration
 duration-step zero lifetype unit s h = absurd (h refl)
 duration-step (suc left) lifetype unit s h = let i : suc left - 1 ≡ left = omega arith in rw i
 
-module _ (left lifetype unit : ℕ) (s r : List ℕ) where
-  pub duration-out : left ≡ 0 → r ≡ take 0 s → r ≡ findDuration left lifetype unit s
-  unfolding findDuration
-  duration-out z e = rw z e
+duration-none : (left lifetype unit : ℕ) (s : List ℕ) → length s < 4 → [] ≡ findDuration left lifetype unit s
+unfolding findDuration
+duration-none zero lifetype unit s h = refl
+duration-none (suc left) lifetype unit s h = rw (lt-ltb (length s) 4 h)
 
-  module _ (may : left ≡ 0 → ⊥) where
-    pub duration-end : length s < 4 → r ≡ take 0 s → r ≡ findDuration left lifetype unit s
-    duration-end h e = rw (duration-step left lifetype unit s may, lt-ltb (length s) 4 h) e
+-- at a place in s, from which on the search goes the way it goes from the start
+module _ (left lifetype unit at : ℕ) (s goal : List ℕ) (so-far : findDuration left lifetype unit (drop at s) ≡ goal) where
+  module _ (empty : List ℕ) (e : empty ≡ take 0 s) where
+    pub duration-out : left ≡ 0 → empty ≡ goal
+    unfolding findDuration
+    duration-out z = e ∙ (rw z at so-far)
 
-    module _ (long : 4 ≤ length s) (n : ℕ) (en : n ≡ attributeSize s) (behind : List ℕ) (eb : behind ≡ drop n s) (t v : ℕ) (et : t ≡ attributeType s)
-        (ev : v ≡ value s) where
-      pub duration-here : (eqb t lifetype && eqb v unit) ≡ true → (m : ℕ) → m ≡ attributeSize behind → r ≡ take m behind →
-          r ≡ findDuration left lifetype unit s
-      unfolding afterAttribute
-      duration-here h m em e =
-          rw (duration-step left lifetype unit s may, le-ltb (length s) 4 long, ← en, ← eb, ← et, ← ev, h, ← em) e
+    pub duration-end : (here : List ℕ) → here ≡ drop at s → length here < 4 → empty ≡ goal
+    duration-end here eh h = e ∙ duration-none left lifetype unit (drop at s) (rw (← eh) h) ∙ so-far
 
-      pub duration-on : (eqb t lifetype && eqb v unit) ≡ false → r ≡ findDuration (left - 1) lifetype unit behind → r ≡ findDuration left lifetype unit s
-      unfolding afterAttribute
-      duration-on h e = rw (duration-step left lifetype unit s may, le-ltb (length s) 4 long, ← en, ← eb, ← et, ← ev, h) e
+  module _ (may : left ≡ 0 → ⊥) (here : List ℕ) (eh : here ≡ drop at s) (long : 4 ≤ length here) (n : ℕ) (en : n ≡ attributeSize here)
+      (behind : List ℕ) (eb : behind ≡ drop n here) (unit-here : Bool) (eu : unit-here ≡ isUnit lifetype unit here) where
+    step : goal ≡ (if unit-here then take (attributeSize behind) behind else findDuration (left - 1) lifetype unit behind)
+    unfolding afterAttribute
+    step = sym so-far ∙ duration-step left lifetype unit (drop at s) may ∙ rw (← eh, le-ltb (length here) 4 long, ← eu, ← en, ← eb)
+
+    pub duration-here : unit-here ≡ true → (m : ℕ) → m ≡ attributeSize behind → (r : List ℕ) → r ≡ take m behind → r ≡ goal
+    duration-here h m em r e = rw (step, h, ← em) e
+
+    module _ (other : unit-here ≡ false) where
+      on : findDuration (left - 1) lifetype unit behind ≡ goal
+      on = rw (step, other)
+
+      pub duration-past : length here < n → (empty : List ℕ) → empty ≡ take 0 s → empty ≡ goal
+      duration-past h empty e = e ∙ duration-none (left - 1) lifetype unit behind (omega (arith, ap length eb ∙ length-drop n here)) ∙ on
+
+      pub duration-on : findDuration (left - 1) lifetype unit (drop (at + n) s) ≡ goal
+      duration-on = rw (← drop-drop n at s, ← eh, ← eb) on
 
 pub seconds-found : (lifetype longest : ℕ) (attributes found : List ℕ) (v : ℕ) → found ≡ secondsOf lifetype attributes → v ≡ value found →
     (leb 4 (length found) && leb 1 v && leb v longest) ≡ secondsWithin lifetype longest attributes

@@ -20,12 +20,16 @@ present attributetype attributes = leb 4 (length (attribute attributetype attrib
 unfoldable pub valueIs : (attributetype wanted : ℕ) (attributes : Bytes) → Bool
 valueIs attributetype wanted attributes = present attributetype attributes && eqb (value (attribute attributetype attributes)) wanted
 
--- the duration behind the life type of this value among the first k attributes of s, no bytes where there is none; lifetype is 11 or 1
+-- whether the attribute at the front of s is the life type of this value; lifetype is 11 or 1
+abbrev pub isUnit : (lifetype unit : ℕ) (s : Bytes) → Bool
+isUnit lifetype unit s = eqb (attributeType s) lifetype && eqb (value s) unit
+
+-- the duration behind it among the first k attributes of s, no bytes where there is none
 unfoldable pub findDuration : (k lifetype unit : ℕ) (s : Bytes) → Bytes
 findDuration zero lifetype unit s = []
 findDuration (suc k) lifetype unit s =
     if ltb (length s) 4 then []
-    else if eqb (attributeType s) lifetype && eqb (value s) unit then take (attributeSize (afterAttribute s)) (afterAttribute s)
+    else if isUnit lifetype unit s then take (attributeSize (afterAttribute s)) (afterAttribute s)
     else findDuration k lifetype unit (afterAttribute s)
 
 -- of life type 1, seconds, and of life type 2, kilobytes

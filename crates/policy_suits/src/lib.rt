@@ -24,7 +24,7 @@ use wire_read::be16;
 use wire_read::front;
 ghost use mathlib.Core.Path.{_≡_};
 ghost use Rattle.policy_lines.specs.Lines.{place};
-ghost use Rattle.policy_suits.specs.Suits.{valueIs, findDuration, secondsWithin, hasKilobytes, kilobytesSome, nothingSurplus, mainValues, mainSuits, quickId, quickAuthentication, suitsQuickLine, suitsLine, lowestIn, lowestTransform, hasTransform, protocolsAlone, protocolsBoth, protocolsSuit, setSuits};
+ghost use Rattle.policy_suits.specs.Suits.{valueIs, isUnit, findDuration, secondsWithin, hasKilobytes, kilobytesSome, nothingSurplus, mainValues, mainSuits, quickId, quickAuthentication, suitsQuickLine, suitsLine, lowestIn, lowestTransform, hasTransform, protocolsAlone, protocolsBoth, protocolsSuit, setSuits};
 
 // The lowest transform of a proposal that suits a line. A transform's number may be 0, so that none is a case of its own.
 pub enum SuitingTransform {
@@ -39,21 +39,39 @@ pub fn value_is(attributetype: u16, wanted: u32, attributes: &[u8]) -> bool
     (4 <= found.len()) & (value(found) == wanted)
 }
 
-// The duration behind the life type of this value among the first `left` attributes; no bytes where there is none.
-pub fn find_duration(left: u8, lifetype: u16, unit: u32, s: &[u8]) -> &[u8]
-    ensures { λ r. ⌜ now r ≡ findDuration left lifetype unit (now (s .entry)) ⌝ }
+// Whether an attribute is the life type of this value. Most are no life type, and their value is not asked.
+fn is_unit(lifetype: u16, unit: u32, s: &[u8]) -> bool
+    ensures { λ r. ⌜ r ≡ isUnit lifetype unit (now (s .entry)) ⌝ }
 {
-    if left == 0 {
-        return front(s, 0);
+    if attribute_type(s) != lifetype {
+        return false;
     }
-    if s.len() < 4 {
-        return front(s, 0);
+    value(s) == unit
+}
+
+// The duration behind the life type of this value among the first `most` attributes; no bytes where there is none.
+pub fn find_duration(most: u8, lifetype: u16, unit: u32, s: &[u8]) -> &[u8]
+    ensures { λ r. ⌜ now r ≡ findDuration most lifetype unit (now (s .entry)) ⌝ }
+{
+    let mut left = most;
+    let mut at: usize = 0;
+    while left != 0 {
+        let here = after(s, at);
+        if here.len() < 4 {
+            return front(s, 0);
+        }
+        let n = attribute_size(here);
+        let behind = after(here, n);
+        if is_unit(lifetype, unit, here) {
+            return front(behind, attribute_size(behind));
+        }
+        if here.len() < n {
+            return front(s, 0);
+        }
+        at += n;
+        left -= 1;
     }
-    let behind = after(s, attribute_size(s));
-    if (attribute_type(s) == lifetype) & (value(s) == unit) {
-        return front(behind, attribute_size(behind));
-    }
-    find_duration(left - 1, lifetype, unit, behind)
+    front(s, 0)
 }
 
 pub fn seconds_within(lifetype: u16, longest: u32, attributes: &[u8]) -> bool

@@ -1,1 +1,1 @@
-mod Ways
+pub mod Ways
