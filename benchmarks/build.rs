@@ -1,4 +1,4 @@
-//! Links what `rt staticlib` wrote of `exports` and `exports_quick`, and the peer in C.
+//! Links the library that `./library` wrote, and the peer in C.
 
 use std::env;
 use std::path::Path;
@@ -6,12 +6,10 @@ use std::process::Command;
 
 fn main() {
     let here = env::var("CARGO_MANIFEST_DIR").expect("cargo names the package's folder");
-    let folder = Path::new(&here).join("../target/staticlib");
+    let folder = Path::new(&here).join("../target/library/x86_64-linux");
     println!("cargo:rustc-link-search=native={}", folder.display());
-    for name in ["exports", "exports_quick"] {
-        println!("cargo:rustc-link-lib=static={name}");
-        println!("cargo:rerun-if-changed={}", folder.join(format!("lib{name}.a")).display());
-    }
+    println!("cargo:rustc-link-lib=static=tallowbrim");
+    println!("cargo:rerun-if-changed={}", folder.join("libtallowbrim.a").display());
     compile("src/window.c");
 }
 

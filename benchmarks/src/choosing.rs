@@ -1,5 +1,6 @@
 //! Times choosing over an offer of eight sets against eight lines, AH with ESP each: the core and the second program.
 
+use crate::exports;
 use crate::samples;
 use crate::timing;
 use second::policy::{self, Choice};
@@ -7,14 +8,10 @@ use std::hint::black_box;
 
 const CHOICES_A_ROUND: usize = 100;
 
-type Choose = fn(&[u8], &[u8]) -> u64;
+/// The refusal, or 0 with set, line, how many transforms, and both of them or one and a 0.
+type Answer = (u32, [u64; 5]);
 
-mod exports {
-    extern "C" {
-        /// Takes a book and a message, each as a slice of bytes: where it begins, and its length.
-        pub fn tallowbrim_choose(book: *const u8, book_length: usize, start: *const u8, length: usize) -> u64;
-    }
-}
+type Choose = fn(&[u8], &[u8]) -> Answer;
 
 /// The core's time over the second program's, where only the last set suits, and it only the last line.
 pub fn ratio() -> f64 {
@@ -24,7 +21,7 @@ pub fn ratio() -> f64 {
 fn compare(name: &str, book: &[u8], message: &[u8]) -> f64 {
     let answer = second(book, message);
     assert_eq!(core(book, message), answer, "{name}: the two choose unlike");
-    let [_, _, _, _, set, line, ..] = answer.to_be_bytes();
+    let (_, [set, line, ..]) = answer;
     timing::ratio(
         &format!("{name} ({} bytes, chosen {set} {line})", message.len()),
         [&|| choose(core, book, message), &|| choose(second, book, message)],
@@ -39,18 +36,20 @@ fn choose(contender: Choose, book: &[u8], message: &[u8]) {
     }
 }
 
-fn core(book: &[u8], message: &[u8]) -> u64 {
+fn core(book: &[u8], message: &[u8]) -> Answer {
+    let mut out = [0; 5];
     // SAFETY: these are those of slices that outlive the call, and the core asks no more.
-    unsafe { exports::tallowbrim_choose(book.as_ptr(), book.len(), message.as_ptr(), message.len()) }
+    let refusal =
+        unsafe { exports::tallowbrim_choose(book.as_ptr(), book.len(), message.as_ptr(), message.len(), &mut out) };
+    (refusal, out)
 }
 
-/// The choice in the one number that the core answers with (crates/exports/specs/Exports.antt).
-fn second(book: &[u8], message: &[u8]) -> u64 {
+fn second(book: &[u8], message: &[u8]) -> Answer {
     match policy::choose(book, message) {
         Ok(Choice { set, line, taken }) => {
-            let [first, last] = [0, 1].map(|place| taken.get(place).map_or(0, |taken| taken.transform.number));
-            u64::from_be_bytes([0, 0, 0, taken.len() as u8, set, line as u8, first, last])
+            let [first, last] = [0, 1].map(|place| taken.get(place).map_or(0, |taken| taken.transform.number.into()));
+            (0, [set.into(), line as u64, taken.len() as u64, first, last])
         }
-        Err(number) => number.into(),
+        Err(number) => (number.into(), [0; 5]),
     }
 }

@@ -1,5 +1,6 @@
-//! Times one whole exchange of quick mode, from two fresh ends to both open: the core and the second program's own ends.
+//! Times one whole exchange of quick mode, from two fresh ends to both open: the core, lent call by call, and the second program's own ends.
 
+use crate::exports::{self, BUFFER, END};
 use crate::samples;
 use crate::timing;
 use second::quick::{End, Lent, Role, State, Step};
@@ -16,13 +17,8 @@ const AH: u32 = 0x1000_0001;
 const ESP: u32 = 0x1000_0002;
 const NONCES: [[u8; 16]; 2] = [[0xa5; 16], [0x5a; 16]];
 
-/// 256 times the initiator's state and the responder's, both being 3, Open (crates/exports_quick/specs/Exchanges.antt).
-const BOTH_OPEN: u32 = 256 * 3 + 3;
-
-const ROOM: usize = 2_048;
-
-/// The kept buffers and the output of the initiator, then the responder's.
-type Buffers = [[u8; ROOM]; 6];
+/// The number of the state Open (include/tallowbrim.h).
+const OPEN: u64 = 3;
 
 /// The initiator's book and the responder's, and the body of both identities.
 struct Given {
@@ -30,41 +26,12 @@ struct Given {
     identity: Vec<u8>,
 }
 
-mod exports {
-    extern "C" {
-        /// Each slice of bytes is two: where it begins, and its length.
-        pub fn tallowbrim_exchange(
-            icookie: u64,
-            rcookie: u64,
-            id: u32,
-            ah: u32,
-            esp: u32,
-            ibook: *const u8,
-            ibook_length: usize,
-            rbook: *const u8,
-            rbook_length: usize,
-            inonce: *const u8,
-            inonce_length: usize,
-            rnonce: *const u8,
-            rnonce_length: usize,
-            first: *const u8,
-            first_length: usize,
-            second: *const u8,
-            second_length: usize,
-            isent: *mut u8,
-            isent_length: usize,
-            igot: *mut u8,
-            igot_length: usize,
-            ioutput: *mut u8,
-            ioutput_length: usize,
-            rsent: *mut u8,
-            rsent_length: usize,
-            rgot: *mut u8,
-            rgot_length: usize,
-            routput: *mut u8,
-            routput_length: usize,
-        ) -> u32;
-    }
+/// One end of the core's, with what a caller keeps for it.
+struct Seat {
+    end: [u8; END],
+    sent: [u8; BUFFER],
+    got: [u8; BUFFER],
+    output: [u8; BUFFER],
 }
 
 /// The core's time over the second program's with eight lines in both books, where only the last set suits, and it only the last line.
@@ -89,23 +56,21 @@ fn compare(name: &str, seconds: [&[u32]; 2]) -> f64 {
 
 /// The length of message 1, where both reach Open with the same three messages, byte for byte.
 fn agreed(name: &str, given: &Given) -> usize {
-    let mut buffers = [[0; ROOM]; 6];
-    assert_eq!(core(given, &mut buffers), BOTH_OPEN, "{name}: the core's ends are not both open");
-    let (states, messages) =
-        second(given).unwrap_or_else(|number| panic!("{name}: the second program refused {number}"));
-    assert_eq!(states, BOTH_OPEN, "{name}: the second program's ends are not both open");
-    let [_, igot, ioutput, _, rgot, _] = &buffers;
-    let [one, two, three] = &messages;
-    for (message, buffer) in [(one, rgot), (two, igot), (three, ioutput)] {
-        assert!(buffer.starts_with(message), "{name}: the two write messages unlike");
+    let mut seats = seats();
+    let sizes = core(given, &mut seats).unwrap_or_else(|number| panic!("{name}: the core refused {number}"));
+    let messages = second(given).unwrap_or_else(|number| panic!("{name}: the second program refused {number}"));
+    let [initiator, responder] = &seats;
+    for ((message, size), buffer) in messages.iter().zip(sizes).zip([&responder.got, &initiator.got, &initiator.output])
+    {
+        assert_eq!(message, &buffer[..size], "{name}: the two write messages unlike");
     }
-    one.len()
+    messages[0].len()
 }
 
 fn core_round(given: &Given) {
-    let mut buffers = [[0; ROOM]; 6];
+    let mut seats = seats();
     for _ in 0..EXCHANGES_A_ROUND {
-        assert_eq!(black_box(core(black_box(given), &mut buffers)), BOTH_OPEN);
+        assert!(black_box(core(black_box(given), &mut seats)).is_ok());
     }
 }
 
@@ -115,76 +80,143 @@ fn second_round(given: &Given) {
     }
 }
 
-fn core(given: &Given, buffers: &mut Buffers) -> u32 {
+fn seats() -> [Seat; 2] {
+    [0; 2].map(|_| Seat { end: [0; END], sent: [0; BUFFER], got: [0; BUFFER], output: [0; BUFFER] })
+}
+
+/// Message 1 is lost at first and sent again by a tick. The sizes of the three messages, or the first refusal.
+fn core(given: &Given, [initiator, responder]: &mut [Seat; 2]) -> Result<[usize; 3], u32> {
     let Given { books: [ibook, rbook], identity } = given;
-    let [inonce, rnonce] = &NONCES;
-    let [isent, igot, ioutput, rsent, rgot, routput] = buffers;
-    // SAFETY: these are those of slices that outlive the call, no two of the lent ones overlap, and the core asks no more.
-    unsafe {
-        exports::tallowbrim_exchange(
-            ICOOKIE,
-            RCOOKIE,
-            MESSAGE_ID,
-            AH,
-            ESP,
-            ibook.as_ptr(),
-            ibook.len(),
-            rbook.as_ptr(),
-            rbook.len(),
-            inonce.as_ptr(),
-            inonce.len(),
-            rnonce.as_ptr(),
-            rnonce.len(),
-            identity.as_ptr(),
-            identity.len(),
-            identity.as_ptr(),
-            identity.len(),
-            isent.as_mut_ptr(),
-            ROOM,
-            igot.as_mut_ptr(),
-            ROOM,
-            ioutput.as_mut_ptr(),
-            ROOM,
-            rsent.as_mut_ptr(),
-            ROOM,
-            rgot.as_mut_ptr(),
-            ROOM,
-            routput.as_mut_ptr(),
-            ROOM,
-        )
+    initiator.fresh(true, ibook, &NONCES[0])?;
+    responder.fresh(false, rbook, &NONCES[1])?;
+    initiator.begin(identity)?;
+    let one = initiator.tick()?;
+    let two = responder.deliver(&initiator.output[..one])?;
+    let three = initiator.deliver(&responder.output[..two])?;
+    responder.deliver(&initiator.output[..three])?;
+    assert_eq!([initiator.state(), responder.state()], [OPEN; 2], "the core's ends are not both open");
+    Ok([one, two, three])
+}
+
+// SAFETY, of each call: pointers and lengths are those of slices that outlive the call, no lent one overlaps another, and the core asks no more.
+impl Seat {
+    fn fresh(&mut self, initiator: bool, book: &[u8], nonce: &[u8]) -> Result<(), u32> {
+        match unsafe {
+            exports::tallowbrim_fresh(
+                &mut self.end,
+                initiator,
+                ICOOKIE,
+                RCOOKIE,
+                book.as_ptr(),
+                book.len(),
+                AH,
+                ESP,
+                nonce.as_ptr(),
+                nonce.len(),
+            )
+        } {
+            0 => Ok(()),
+            refusal => Err(refusal),
+        }
+    }
+
+    fn begin(&mut self, identity: &[u8]) -> Result<usize, u32> {
+        let mut out = [0; 2];
+        let refusal = unsafe {
+            exports::tallowbrim_begin(
+                &mut self.end,
+                MESSAGE_ID,
+                identity.as_ptr(),
+                identity.len(),
+                identity.as_ptr(),
+                identity.len(),
+                self.sent.as_mut_ptr(),
+                BUFFER,
+                self.got.as_ptr(),
+                BUFFER,
+                self.output.as_mut_ptr(),
+                BUFFER,
+                &mut out,
+            )
+        };
+        sized(refusal, out)
+    }
+
+    fn deliver(&mut self, message: &[u8]) -> Result<usize, u32> {
+        let mut out = [0; 2];
+        let refusal = unsafe {
+            exports::tallowbrim_deliver(
+                &mut self.end,
+                true,
+                message.as_ptr(),
+                message.len(),
+                self.sent.as_mut_ptr(),
+                BUFFER,
+                self.got.as_mut_ptr(),
+                BUFFER,
+                self.output.as_mut_ptr(),
+                BUFFER,
+                &mut out,
+            )
+        };
+        sized(refusal, out)
+    }
+
+    fn tick(&mut self) -> Result<usize, u32> {
+        let mut out = [0; 2];
+        let refusal = unsafe {
+            exports::tallowbrim_tick(
+                &mut self.end,
+                self.sent.as_ptr(),
+                BUFFER,
+                self.got.as_ptr(),
+                BUFFER,
+                self.output.as_mut_ptr(),
+                BUFFER,
+                &mut out,
+            )
+        };
+        sized(refusal, out)
+    }
+
+    fn state(&self) -> u64 {
+        let mut out = [0; 4];
+        unsafe { exports::tallowbrim_state(&self.end, &mut out) };
+        out[0]
     }
 }
 
-/// The states in one number as the core answers them, and the three messages.
-fn second(given: &Given) -> Result<(u32, [Vec<u8>; 3]), u16> {
+/// How many bytes of its output an end sends, or the refusal.
+fn sized(refusal: u32, [_, size]: [u64; 2]) -> Result<usize, u32> {
+    match refusal {
+        0 => Ok(size as usize),
+        refusal => Err(refusal),
+    }
+}
+
+/// The same exchange of the second program's: its three messages.
+fn second(given: &Given) -> Result<[Vec<u8>; 3], u16> {
     let Given { books: [ibook, rbook], identity } = given;
-    let lent = Lent { sent: ROOM, got: ROOM, output: ROOM };
+    let lent = Lent { sent: BUFFER, got: BUFFER, output: BUFFER };
     let end = |role, book, nonce: [u8; 16]| {
         let cookies = [ICOOKIE, RCOOKIE].map(u64::to_be_bytes);
         End::fresh(role, cookies, book, Spis { ah: AH, esp: ESP }, nonce.to_vec())
     };
     let mut initiator = end(Role::Initiator, ibook, NONCES[0])?;
     let mut responder = end(Role::Responder, rbook, NONCES[1])?;
-    let one = sent(initiator.begin(lent, MESSAGE_ID, [identity, identity])?);
+    initiator.begin(lent, MESSAGE_ID, [identity, identity])?;
+    let one = sent(initiator.tick(lent)?);
     let two = sent(responder.deliver(lent, true, &one)?);
     let three = sent(initiator.deliver(lent, true, &two)?);
     responder.deliver(lent, true, &three)?;
-    Ok((256 * number(initiator.state) + number(responder.state), [one, two, three]))
+    let open = [&initiator, &responder].map(|end| matches!(end.state, State::Open));
+    assert_eq!(open, [true; 2], "the second program's ends are not both open");
+    Ok([one, two, three])
 }
 
 fn sent(step: Step) -> Vec<u8> {
     match step {
         Step::Send(message) => message,
         Step::Nothing => Vec::new(),
-    }
-}
-
-fn number(state: State) -> u32 {
-    match state {
-        State::Idle => 0,
-        State::Sent => 1,
-        State::Half => 2,
-        State::Open => 3,
-        State::GivenUp => 4,
     }
 }

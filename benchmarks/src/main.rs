@@ -3,6 +3,7 @@
 
 mod choosing;
 mod exchange;
+mod exports;
 mod reading;
 mod replying;
 mod samples;

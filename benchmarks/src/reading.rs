@@ -1,5 +1,6 @@
 //! Times the reading of a message: the core and the second program.
 
+use crate::exports;
 use crate::samples;
 use crate::timing;
 use second::message;
@@ -7,15 +8,8 @@ use std::hint::black_box;
 
 const READINGS_A_ROUND: usize = 500;
 
-/// A message is read as one number (crates/exports/specs/Exports.antt): this, its exchange and its count, or a refusal.
-const READ: u32 = 65_536;
-
-mod exports {
-    extern "C" {
-        /// Takes a slice of bytes: where it begins, and its length.
-        pub fn tallowbrim_read(start: *const u8, length: usize) -> u32;
-    }
-}
+/// The refusal, or 0 with exchange and count.
+type Answer = (u32, [u64; 2]);
 
 /// The core's time over the second program's, on a quick mode message of four sets.
 pub fn ratio() -> f64 {
@@ -35,30 +29,30 @@ fn compare(name: &str, message: &[u8]) -> f64 {
     )
 }
 
-fn said(answer: u32) -> String {
-    let [_, _, exchange, count] = answer.to_be_bytes();
-    if answer < READ {
-        format!("refused {answer}")
-    } else {
-        format!("read {exchange} {count}")
+fn said((refusal, [exchange, count]): Answer) -> String {
+    match refusal {
+        0 => format!("read {exchange} {count}"),
+        _ => format!("refused {refusal}"),
     }
 }
 
-fn read(reader: fn(&[u8]) -> u32, message: &[u8]) {
+fn read(reader: fn(&[u8]) -> Answer, message: &[u8]) {
     let reader = black_box(reader);
     for _ in 0..READINGS_A_ROUND {
         black_box(reader(black_box(message)));
     }
 }
 
-fn core(message: &[u8]) -> u32 {
+fn core(message: &[u8]) -> Answer {
+    let mut out = [0; 2];
     // SAFETY: the two are those of a slice that outlives the call, and the core asks no more.
-    unsafe { exports::tallowbrim_read(message.as_ptr(), message.len()) }
+    let refusal = unsafe { exports::tallowbrim_message(message.as_ptr(), message.len(), &mut out) };
+    (refusal, out)
 }
 
-fn second(message: &[u8]) -> u32 {
+fn second(message: &[u8]) -> Answer {
     match message::read(message) {
-        Ok(reading) => READ + 256 * u32::from(reading.exchange) + reading.payloads.len() as u32,
-        Err(number) => number.into(),
+        Ok(reading) => (0, [reading.exchange.into(), reading.payloads.len() as u64]),
+        Err(number) => (number.into(), [0; 2]),
     }
 }

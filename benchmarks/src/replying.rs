@@ -1,5 +1,6 @@
 //! Times replying to an offer of eight sets by a book of eight lines, AH with ESP each: the core and the second program.
 
+use crate::exports::{self, BUFFER};
 use crate::samples;
 use crate::timing;
 use second::reply::{self, Spis};
@@ -9,26 +10,6 @@ const REPLIES_A_ROUND: usize = 100;
 
 const AH: u32 = 0x1000_0001;
 const ESP: u32 = 0x1000_0002;
-const ROOM: usize = 2_048;
-
-/// A reply is answered by this and its size, a refusal by its number (crates/exports_quick/specs/Replies.antt).
-const WRITTEN: u32 = 65_536;
-
-mod exports {
-    extern "C" {
-        /// Each slice of bytes is two: where it begins, and its length.
-        pub fn tallowbrim_reply(
-            book: *const u8,
-            book_length: usize,
-            start: *const u8,
-            length: usize,
-            ah: u32,
-            esp: u32,
-            buffer: *mut u8,
-            room: usize,
-        ) -> u32;
-    }
-}
 
 /// The core's time over the second program's, where only the last set suits, and it only the last line.
 pub fn ratio() -> f64 {
@@ -37,8 +18,8 @@ pub fn ratio() -> f64 {
 
 fn compare(name: &str, book: &[u8], message: &[u8]) -> f64 {
     let reply = second(book, message).unwrap_or_else(|number| panic!("{name}: the second program refused {number}"));
-    let mut buffer = [0; ROOM];
-    assert_eq!(core(book, message, &mut buffer), WRITTEN + reply.len() as u32, "{name}: the two reply unlike");
+    let mut buffer = [0; BUFFER];
+    assert_eq!(core(book, message, &mut buffer), (0, [reply.len() as u64]), "{name}: the two reply unlike");
     assert!(buffer.starts_with(&reply), "{name}: the two write replies unlike");
     timing::ratio(
         &format!("{name} ({} bytes, a reply of {})", message.len(), reply.len()),
@@ -48,7 +29,7 @@ fn compare(name: &str, book: &[u8], message: &[u8]) -> f64 {
 }
 
 fn core_round(book: &[u8], message: &[u8]) {
-    let mut buffer = [0; ROOM];
+    let mut buffer = [0; BUFFER];
     for _ in 0..REPLIES_A_ROUND {
         black_box(core(black_box(book), black_box(message), &mut buffer));
     }
@@ -60,9 +41,11 @@ fn second_round(book: &[u8], message: &[u8]) {
     }
 }
 
-fn core(book: &[u8], message: &[u8], buffer: &mut [u8; ROOM]) -> u32 {
+/// The refusal, or 0 with the size of the reply.
+fn core(book: &[u8], message: &[u8], buffer: &mut [u8; BUFFER]) -> (u32, [u64; 1]) {
+    let mut out = [0];
     // SAFETY: these are those of slices that outlive the call, the lent one overlaps no other, and the core asks no more.
-    unsafe {
+    let refusal = unsafe {
         exports::tallowbrim_reply(
             book.as_ptr(),
             book.len(),
@@ -71,11 +54,13 @@ fn core(book: &[u8], message: &[u8], buffer: &mut [u8; ROOM]) -> u32 {
             AH,
             ESP,
             buffer.as_mut_ptr(),
-            ROOM,
+            BUFFER,
+            &mut out,
         )
-    }
+    };
+    (refusal, out)
 }
 
 fn second(book: &[u8], message: &[u8]) -> Result<Vec<u8>, u16> {
-    reply::alone(book, Spis { ah: AH, esp: ESP }, ROOM, message)
+    reply::alone(book, Spis { ah: AH, esp: ESP }, BUFFER, message)
 }

@@ -1,15 +1,10 @@
 //! Times one packet into a table of 64 lives, and one step of the record lent alone: the core, the peer in Rust and plain C.
 
+use crate::exports::{self, TABLE};
 use crate::streams::{self, Order, Packet};
 use crate::timing;
 use crate::window::{self, Life, Window, ACCEPTED, LIVES};
 use std::hint::black_box;
-
-/// The core's table: so many rooms of so many words (crates/sequence_table/src/table.rt).
-const ROOMS: usize = 64;
-const WORDS: usize = 6;
-
-type Words = [u64; ROOMS * WORDS];
 
 type Step = unsafe extern "C" fn(&mut Window, u32, bool) -> u32;
 
@@ -17,15 +12,8 @@ type Step = unsafe extern "C" fn(&mut Window, u32, bool) -> u32;
 type PacketInto<Table> = unsafe extern "C" fn(&mut Table, u32, u8, bool, *const u8, usize) -> u32;
 
 extern "C" {
+    /// The record's two words are the peers' window.
     fn tallowbrim_step(record: &mut Window, number: u32, integrity: bool) -> u32;
-    fn tallowbrim_packet(
-        table: &mut Words,
-        destination: u32,
-        protocol: u8,
-        integrity: bool,
-        start: *const u8,
-        length: usize,
-    ) -> u32;
     fn plain_c_step(window: &mut Window, number: u32, integrity: bool) -> u32;
     fn plain_c_packet(
         lives: &mut [Life; LIVES],
@@ -59,7 +47,7 @@ pub fn record() -> Ratios {
 pub fn table() -> Ratios {
     greatest(ORDERS.map(|(order_name, order)| {
         let stream = &streams::packets(order, LIVES);
-        let core = black_box(tallowbrim_packet as PacketInto<Words>);
+        let core = black_box(exports::tallowbrim_packet as PacketInto<[u64; TABLE]>);
         let [rust, c] = black_box([window::packet as PacketInto<[Life; LIVES]>, plain_c_packet]);
         let (words, lives) = (words(), lives());
         let accepted = alike(
@@ -108,15 +96,15 @@ fn sum(verdicts: impl Iterator<Item = u32>) {
     black_box(verdicts.fold(0, u32::wrapping_add));
 }
 
-/// The 64 lives as the core's words, each at its beginning.
-fn words() -> Words {
-    let mut words = [0; ROOMS * WORDS];
-    for (room, key) in words.chunks_exact_mut(WORDS).zip(streams::keys()) {
-        room[0] = u64::from(key.protocol) + 1;
-        room[1] = key.destination.into();
-        room[2] = key.spi.into();
+/// The 64 lives in the core's table, each at its beginning.
+fn words() -> [u64; TABLE] {
+    let mut table = [0; TABLE];
+    for key in streams::keys() {
+        // SAFETY: the core takes any table and any key.
+        let refusal = unsafe { exports::tallowbrim_add(&mut table, key.destination, key.protocol, key.spi) };
+        assert_eq!(refusal, 0, "a life of 64 that was not added");
     }
-    words
+    table
 }
 
 /// The same lives as the peers'.

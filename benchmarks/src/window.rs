@@ -7,7 +7,7 @@ const AH: u8 = 2;
 const ESP: u8 = 3;
 
 /// An accepted packet's number; a refused packet's is its refusal.
-pub const ACCEPTED: u32 = 65_536;
+pub const ACCEPTED: u32 = 0;
 
 #[repr(C)]
 #[derive(Clone, Copy, Default)]

@@ -1,2 +1,1 @@
-pub mod Exchanges
-pub mod Replies
+pub mod Called

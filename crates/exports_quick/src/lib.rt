@@ -1,134 +1,227 @@
-// What another language calls to reply to a message, and for a whole exchange in one call: two fresh ends, from begin to both open.
-use policy_reply::Outcome;
-use policy_reply::reply;
+// What other languages call for quick mode: steps of a lent end, and what it holds.
+use exports_end::end_of;
+use exports_end::progress_of;
+use exports_end::put_end;
+use exports_end::put_progress;
+use exports_end::spis_values;
+use exports_end::state_number;
+use exports_end::transforms_values;
 use quick_begin::begin;
 use quick_deliver::deliver;
-use quick_end::End;
 use quick_end::Role;
-use quick_end::State;
 use quick_end::fresh;
+use quick_shape::nonce;
 use quick_step::StepAnswer;
 use quick_step::Stepped;
-use wire_read::front;
+use quick_tick::tick;
+use wire_write::put_bytes;
 ghost use mathlib.Core.Path.{_≡_};
-ghost use Prim.Native.Nat.{_+_, _*_};
-ghost use Rattle.quick_end.specs.declared.Role.the-variants.{Initiator, Responder};
 ghost use Rattle.quick_end.specs.Fresh.{fresh};
-ghost use Rattle.policy_reply.specs.Reply.{replied};
-ghost use Rattle.quick_step.specs.Steps.{afterStep};
-ghost use Rattle.exports_quick.specs.Exchanges.{stateNumber, sendSize, given, exchanged};
-ghost use Rattle.exports_quick.specs.Replies.{replyPacked};
+ghost use Rattle.quick_shape.specs.Shapes.{nonce};
+ghost use Rattle.quick_begin.specs.Begin.{begun};
+ghost use Rattle.quick_tick.specs.Tick.{ticked};
+ghost use Rattle.quick_deliver.specs.Deliver.{delivered};
+ghost use Rattle.exports_words.specs.Given.{given};
+ghost use Rattle.exports_end.specs.Ends.{progressOf, endOf};
+ghost use Rattle.exports_quick.specs.Called.{roleBy, freshCalled, finished, called, stateAnswer, agreedAnswer, nonceCalled};
 
-// Chooses, and writes the reply at the buffer's start: the refusal number, or 65,536 + how many bytes the reply has.
+fn role_by(initiator: bool) -> Role
+    ensures { λ r. ⌜ r ≡ roleBy initiator ⌝ }
+{
+    if initiator {
+        return Role::Initiator;
+    }
+    Role::Responder
+}
+
+// An end starts anew in the lent bytes.
 #[no_mangle]
-pub extern "C" fn tallowbrim_reply(
+pub extern "C" fn tallowbrim_fresh(
+    end: &mut [u8; 398],
+    initiator: bool,
+    icookie: u64,
+    rcookie: u64,
     book: &[u8],
-    m: &[u8],
     ah: u32,
     esp: u32,
-    buffer: &mut [u8],
+    nonce: &[u8],
 ) -> u32
-    ensures { λ r. ⌜ replyPacked (replied (now (book .entry)) (now (m .entry)) ah esp (now (buffer .entry))) ≡ (r, now (buffer .exit)) ⌝ }
+    ensures { λ r. ⌜ freshCalled (now (end .entry))
+        (fresh (roleBy initiator) icookie rcookie (now (book .entry)) ah esp (now (nonce .entry))) ≡ (r, now (end .exit)) ⌝ }
 {
-    let outcome = reply(book, m, ah, esp, buffer);
-    match outcome {
-        Outcome::Refused(number) => number as u32,
-        Outcome::Written(size) => 65536 + size as u32,
+    let made = fresh(role_by(initiator), icookie, rcookie, book, ah, esp, nonce);
+    if made.number != 0 {
+        return made.number as u32;
     }
+    let begins = made.end;
+    put_end(end, begins);
+    0
 }
 
-// A state's number: 0 Idle, 1 Sent, 2 Half, 3 Open, 4 GivenUp.
-fn state_number(end: End) -> u8
-    ensures { λ r. ⌜ r ≡ stateNumber (end .progress .state) ⌝ }
+// What a step leaves of a lent end, and in the words.
+fn finish(end: &mut [u8; 398], step: Stepped, out: &mut [u64; 2]) -> u32
+    ensures { λ r. ⌜ finished (now (end .entry)) (now (out .entry)) step ≡ (r, now (end .exit), now (out .exit)) ⌝ }
 {
-    let progress = end.progress;
-    let state = progress.state;
-    match state {
-        State::Idle => 0,
-        State::Sent => 1,
-        State::Half => 2,
-        State::Open => 3,
-        State::GivenUp => 4,
-    }
-}
-
-// How many bytes of the output are a message to send.
-fn send_size(answer: StepAnswer) -> usize
-    ensures { λ r. ⌜ r ≡ sendSize answer ⌝ }
-{
+    let answer = step.answer;
+    let after = step.end;
+    let progress = after.progress;
     match answer {
-        StepAnswer::Send(size) => size as usize,
-        StepAnswer::Nothing => 0,
-        StepAnswer::Refused(_) => 0,
+        StepAnswer::Refused(number) => number as u32,
+        StepAnswer::Nothing => {
+            put_progress(end, progress);
+            *out = [0, 0];
+            0
+        }
+        StepAnswer::Send(size) => {
+            put_progress(end, progress);
+            *out = [1, size as u64];
+            0
+        }
     }
 }
 
-// An end is given what another one sends: the front of that one's output, by its answer.
-fn give(
-    end: End,
-    said: StepAnswer,
-    from: &[u8],
+// The initiator begins.
+#[no_mangle]
+pub extern "C" fn tallowbrim_begin(
+    end: &mut [u8; 398],
+    id: u32,
+    first: &[u8],
+    second: &[u8],
+    sent: &mut [u8],
+    got: &[u8],
+    output: &mut [u8],
+    out: &mut [u64; 2],
+) -> u32
+    ensures { λ r. ⌜ called (now (end .entry)) (now (out .entry))
+        (begun (endOf (now (end .entry))) id (now (first .entry)) (now (second .entry)) (now (sent .entry)) (now (got .entry)) (now (output .entry))) ≡
+        record {
+          number = r;
+          end = now (end .exit);
+          out = now (out .exit);
+          sent = now (sent .exit);
+          got = now (got .entry);
+          output = now (output .exit);
+        } ⌝ }
+{
+    let before = end_of(end);
+    let step = begin(before, id, first, second, sent, got, output);
+    finish(end, step, out)
+}
+
+// A message arrives.
+#[no_mangle]
+pub extern "C" fn tallowbrim_deliver(
+    end: &mut [u8; 398],
+    holds: bool,
+    m: &[u8],
     sent: &mut [u8],
     got: &mut [u8],
     output: &mut [u8],
-) -> Stepped
-    ensures { λ r. ⌜ given end said (now (from .entry)) (now (sent .entry)) (now (got .entry)) (now (output .entry)) ≡
-        afterStep r (now (sent .exit)) (now (got .exit)) (now (output .exit)) ⌝ }
-{
-    deliver(end, true, front(from, send_size(said)), sent, got, output)
-}
-
-// One exchange from two fresh ends on, each given what the other sends: 256 times the initiator's state and the responder's. Both have the
-// same SPIs.
-#[no_mangle]
-pub extern "C" fn tallowbrim_exchange(
-    icookie: u64,
-    rcookie: u64,
-    id: u32,
-    ah: u32,
-    esp: u32,
-    ibook: &[u8],
-    rbook: &[u8],
-    inonce: &[u8],
-    rnonce: &[u8],
-    first: &[u8],
-    second: &[u8],
-    isent: &mut [u8],
-    igot: &mut [u8],
-    ioutput: &mut [u8],
-    rsent: &mut [u8],
-    rgot: &mut [u8],
-    routput: &mut [u8],
+    out: &mut [u64; 2],
 ) -> u32
-    ensures { λ r. ⌜ exchanged
-        (fresh Initiator icookie rcookie (now (ibook .entry)) ah esp (now (inonce .entry)))
-        (fresh Responder icookie rcookie (now (rbook .entry)) ah esp (now (rnonce .entry)))
-        id (now (first .entry)) (now (second .entry))
-        (now (isent .entry)) (now (igot .entry)) (now (ioutput .entry)) (now (rsent .entry)) (now (rgot .entry)) (now (routput .entry)) ≡
+    ensures { λ r. ⌜ called (now (end .entry)) (now (out .entry))
+        (delivered (endOf (now (end .entry))) holds (now (m .entry)) (now (sent .entry)) (now (got .entry)) (now (output .entry))) ≡
         record {
-          states = r;
-          isent = now (isent .exit);
-          igot = now (igot .exit);
-          ioutput = now (ioutput .exit);
-          rsent = now (rsent .exit);
-          rgot = now (rgot .exit);
-          routput = now (routput .exit);
+          number = r;
+          end = now (end .exit);
+          out = now (out .exit);
+          sent = now (sent .exit);
+          got = now (got .exit);
+          output = now (output .exit);
         } ⌝ }
 {
-    let initiator = fresh(Role::Initiator, icookie, rcookie, ibook, ah, esp, inonce);
-    let responder = fresh(Role::Responder, icookie, rcookie, rbook, ah, esp, rnonce);
-    let begins = initiator.end;
-    let answers = responder.end;
-    let one = begin(begins, id, first, second, isent, igot, ioutput);
-    let said = one.answer;
-    let two = give(answers, said, ioutput, rsent, rgot, routput);
-    let begun = one.end;
-    let said = two.answer;
-    let three = give(begun, said, routput, isent, igot, ioutput);
-    let half = two.end;
-    let said = three.answer;
-    let four = give(half, said, ioutput, rsent, rgot, routput);
-    let initiator = three.end;
-    let responder = four.end;
-    256 * state_number(initiator) as u32 + state_number(responder) as u32
+    let before = end_of(end);
+    let step = deliver(before, holds, m, sent, got, output);
+    finish(end, step, out)
+}
+
+// Time has passed without an answer.
+#[no_mangle]
+pub extern "C" fn tallowbrim_tick(
+    end: &mut [u8; 398],
+    sent: &[u8],
+    got: &[u8],
+    output: &mut [u8],
+    out: &mut [u64; 2],
+) -> u32
+    ensures { λ r. ⌜ called (now (end .entry)) (now (out .entry))
+        (ticked (endOf (now (end .entry))) (now (sent .entry)) (now (got .entry)) (now (output .entry))) ≡
+        record {
+          number = r;
+          end = now (end .exit);
+          out = now (out .exit);
+          sent = now (sent .entry);
+          got = now (got .entry);
+          output = now (output .exit);
+        } ⌝ }
+{
+    let before = end_of(end);
+    let step = tick(before, sent, got, output);
+    finish(end, step, out)
+}
+
+// Where an end stands.
+#[no_mangle]
+pub extern "C" fn tallowbrim_state(end: &[u8; 398], out: &mut [u64; 4]) -> u32
+    ensures { λ r. ⌜ given 4 (stateAnswer (progressOf (now (end .entry)))) (now (out .entry)) ≡ (r, now (out .exit)) ⌝ }
+{
+    let progress = progress_of(end);
+    let state = progress.state;
+    *out = [
+        state_number(state) as u64,
+        progress.sends as u64,
+        progress.sentsize as u64,
+        progress.gotsize as u64,
+    ];
+    0
+}
+
+// What the ends agreed on.
+#[no_mangle]
+pub extern "C" fn tallowbrim_agreed(end: &[u8; 398], out: &mut [u64; 10]) -> u32
+    ensures { λ r. ⌜ given 10 (agreedAnswer (progressOf (now (end .entry)))) (now (out .entry)) ≡ (r, now (out .exit)) ⌝ }
+{
+    let progress = progress_of(end);
+    if progress.gotsize == 0 {
+        return 8195;
+    }
+    let agreed = progress.agreed;
+    let set = agreed.set;
+    let transforms = agreed.transforms;
+    let initiator = agreed.initiator;
+    let responder = agreed.responder;
+    let t = transforms_values(transforms);
+    let i = spis_values(initiator);
+    let r = spis_values(responder);
+    *out = [
+        set.0 as u64,
+        t[0] as u64,
+        t[1] as u64,
+        t[2] as u64,
+        i[0],
+        i[1],
+        i[2],
+        r[0],
+        r[1],
+        r[2],
+    ];
+    0
+}
+
+// The nonce of the initiator's or of the responder's message.
+#[no_mangle]
+pub extern "C" fn tallowbrim_nonce<'a>(
+    initiator: bool,
+    initiators: &'a [u8],
+    responders: &'a [u8],
+    buffer: &mut [u8; 256],
+    out: &mut [u64; 1],
+) -> u32
+    ensures { λ r. ⌜ nonceCalled (nonce (roleBy initiator) (now (initiators .entry)) (now (responders .entry))) (now (buffer .entry)) ≡
+        (r, now (out .exit), now (buffer .exit)) ⌝ }
+{
+    let found = nonce(role_by(initiator), initiators, responders);
+    put_bytes(buffer, 0, found);
+    *out = [found.len() as u64];
+    0
 }

@@ -68,7 +68,8 @@ pub fn offered(book: &[u8], m: &[u8]) -> Offer
     }
 }
 
-fn is_place(body: &[u8], at: Places) -> bool
+// Whether set, proposal and transform are there in an SA payload's body.
+pub fn is_place(body: &[u8], at: Places) -> bool
     ensures { λ r. ⌜ r ≡ isPlace (now (body .entry)) at ⌝ }
 {
     let s = set(at.set, body);

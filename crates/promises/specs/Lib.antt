@@ -30,3 +30,4 @@ pub mod CaptureAnswers
 pub mod CaptureExamples
 pub mod Quick
 pub mod KeptBuffers
+pub mod Library

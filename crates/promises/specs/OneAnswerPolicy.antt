@@ -55,6 +55,8 @@ use Rattle.policy_choice.proofs.choose.choose.Kinds as choose-kinds
 use Rattle.policy_choice.proofs.choose.choose.Reads as choose-reads
 use Rattle.policy_why.proofs.offered.Kinds as offered-kinds
 use Rattle.policy_why.proofs.offered.Reads as offered-reads
+use Rattle.policy_why.proofs.is_place.Kinds as is-place-kinds
+use Rattle.policy_why.proofs.is_place.Reads as is-place-reads
 use Rattle.policy_why.proofs.cause_at.Kinds as cause-at-kinds
 use Rattle.policy_why.proofs.cause_at.Reads as cause-at-reads
 use Rattle.policy_reply.proofs.put_proposal.Kinds as put-proposal-kinds
@@ -144,6 +146,9 @@ policy-choice-choose κs arguments x y s t p q = p ∙ sym q
 
 pub policy-why-offered : OneAnswer 2 offered-kinds.ps offered-kinds.r result offered-reads.Post
 policy-why-offered κs arguments x y s t p q = p ∙ sym q
+
+pub policy-why-is-place : OneAnswer 1 is-place-kinds.ps is-place-kinds.r result is-place-reads.Post
+policy-why-is-place κs arguments x y s t p q = p ∙ sym q
 
 pub policy-why-cause-at : OneAnswer 2 cause-at-kinds.ps cause-at-kinds.r result cause-at-reads.Post
 policy-why-cause-at κs arguments x y s t p q = p ∙ sym q

@@ -30,29 +30,31 @@ use Rattle.quick_exchange.proofs.Moves.{refused-is, by-begin, by-tick, by-deliv
 use Rattle.quick_exchange.proofs.Written.{all-readable}
 
 module _ (end : End) (sent got output : Bytes) where
-  -- what a call leaves: where it is a refusal, all is as it was
+  -- what a call leaves: where it is a refusal, all is as it was; and what the end was made with always is
   pub record Unchanged (after : After) : Type 0 where
     pub as-it-was : (number : ℕ) → stepAnswer (after .step .answer) ≡ refused number → after ≡ refusing end sent got output number
+    pub own-kept : after .step .end .own ≡ end .own
 
   refuses : (number : ℕ) → Unchanged (refusing end sent got output number)
   refuses number = record {
     as-it-was = λ n e. let is = refused-is (Refused number) n e in let same : number ≡ n = cc in ap (refusing end sent got output) same;
+    own-kept = refl;
   }
 
-  sends : (after : After) (size : ℕ) → after .step .answer ≡ Send size → Unchanged after
-  sends after size h = record { as-it-was = λ n e. let is = refused-is (after .step .answer) n e in never (cc) }
+  sends : (after : After) (size : ℕ) → after .step .answer ≡ Send size → after .step .end .own ≡ end .own → Unchanged after
+  sends after size h own = record { as-it-was = λ n e. let is = refused-is (after .step .answer) n e in never (cc); own-kept = own }
 
-  quiet : (after : After) → after .step .answer ≡ Nothing → Unchanged after
-  quiet after h = record { as-it-was = λ n e. let is = refused-is (after .step .answer) n e in never (cc) }
+  quiet : (after : After) → after .step .answer ≡ Nothing → after .step .end .own ≡ end .own → Unchanged after
+  quiet after h own = record { as-it-was = λ n e. let is = refused-is (after .step .answer) n e in never (cc); own-kept = own }
 
   abbrev itself : Party
   itself = record { end = end; sent = sent; got = got }
 
   pub begin-refused : (id : ℕ) (first second : Bytes) → Unchanged (begun end id first second sent got output)
-  begin-refused id first second = by-begin itself output Unchanged refuses id first second (λ b. sends _ _ refl)
+  begin-refused id first second = by-begin itself output Unchanged refuses id first second (λ b. sends _ _ refl refl)
 
   pub tick-refused : Unchanged (ticked end sent got output)
-  tick-refused = by-tick itself output Unchanged refuses (λ q. quiet _ refl) (λ room w. sends _ _ refl) (λ w. quiet _ refl)
+  tick-refused = by-tick itself output Unchanged refuses (λ q. quiet _ refl refl) (λ room w. sends _ _ refl refl) (λ w. quiet _ refl refl)
 
   module _ (m : Bytes) where
     initiator-refused : (state : State) → Unchanged (atInitiator end m sent got output state)
@@ -60,8 +62,8 @@ module _ (end : End) (sent got output : Bytes) where
     initiator-refused Sent =
         by-test (not (isLonger (shapeOf m))) (λ e. rw e (refuses _))
         (λ e. by-test (not (eqb (takenCode (shapeOf m) (kept (end .progress .sentsize) sent) m) 0)) (λ f. rw (e, f) (refuses _))
-        (λ f. rw (e, f) (sends _ _ refl)))
-    initiator-refused Open = by-test (alike m (kept (end .progress .gotsize) got)) (λ e. rw e (sends _ _ refl)) (λ e. rw e (refuses _))
+        (λ f. rw (e, f) (sends _ _ refl refl)))
+    initiator-refused Open = by-test (alike m (kept (end .progress .gotsize) got)) (λ e. rw e (sends _ _ refl refl)) (λ e. rw e (refuses _))
     initiator-refused Idle = refuses _
     initiator-refused Half = refuses _
     initiator-refused GivenUp = refuses _
@@ -69,15 +71,15 @@ module _ (end : End) (sent got output : Bytes) where
     after-choice-refused : (choice : Choice) → Unchanged (afterChoice end m sent got output choice)
     unfolding afterChoice halfway
     after-choice-refused (choices.Refused number) = refuses _
-    after-choice-refused (choices.Chosen number line transforms) = sends _ _ refl
+    after-choice-refused (choices.Chosen number line transforms) = sends _ _ refl refl
 
     responder-refused : (state : State) → Unchanged (atResponder end m sent got output state)
     unfolding atResponder
     responder-refused Idle = by-test (not (isLonger (shapeOf m))) (λ e. rw e (refuses _)) (λ e. rw e (after-choice-refused _))
     responder-refused Half =
-        by-test (alike m (kept (end .progress .gotsize) got)) (λ e. rw e (sends _ _ refl))
-        (λ e. by-test (eqb (shapeOf m) 1) (λ f. rw (e, f) (quiet _ refl)) (λ f. rw (e, f) (refuses _)))
-    responder-refused Open = by-test (alike m (kept (end .progress .gotsize) got) || eqb (shapeOf m) 1) (λ e. rw e (quiet _ refl)) (λ e. rw e (refuses _))
+        by-test (alike m (kept (end .progress .gotsize) got)) (λ e. rw e (sends _ _ refl refl))
+        (λ e. by-test (eqb (shapeOf m) 1) (λ f. rw (e, f) (quiet _ refl refl)) (λ f. rw (e, f) (refuses _)))
+    responder-refused Open = by-test (alike m (kept (end .progress .gotsize) got) || eqb (shapeOf m) 1) (λ e. rw e (quiet _ refl refl)) (λ e. rw e (refuses _))
     responder-refused Sent = refuses _
     responder-refused GivenUp = refuses _
 

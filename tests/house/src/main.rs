@@ -2,13 +2,15 @@
 //! a theorem that it has one answer, and every row is of something that its crate declares. That page's column of edits and the diagram in
 //! docs/ARCHITECTURE.md are as they are made from the sources. The edits of tests/wrong-cores name a definition. No axiom is declared. The
 //! pages name only files that exist, and where they lay out definitions only names that the sources declare. Each sample answers as its page
-//! says, and README.md shows what it does.
-//! `house ROOT BENCH VERDICT CAPTURE`; the last line is `N passed, M failed`. `house --write ROOT` makes column and diagram anew (tools/pages).
+//! says, and README.md shows what it does. Header, archives and that page have the same exported functions.
+//! `house ROOT BENCH VERDICT CAPTURE WHY LIBRARY`; the last line is `N passed, M failed`. `house --write ROOT` makes column and diagram anew (tools/pages).
 
 mod diagram;
 mod edits;
+mod library;
 mod sources;
 
+use std::collections::BTreeSet;
 use std::fs;
 use std::io::Write;
 use std::path::{Path, PathBuf};
@@ -58,8 +60,8 @@ fn main() -> ExitCode {
             return ExitCode::from(u8::from(!write_pages(Path::new(root))));
         }
     }
-    let [_, root, bench, verdict, capture, why] = &arguments[..] else {
-        eprintln!("house ROOT BENCH VERDICT CAPTURE WHY, or house --write ROOT");
+    let [_, root, bench, verdict, capture, why, library] = &arguments[..] else {
+        eprintln!("house ROOT BENCH VERDICT CAPTURE WHY LIBRARY, or house --write ROOT");
         return ExitCode::from(2);
     };
     let root = Path::new(root);
@@ -78,6 +80,7 @@ fn main() -> ExitCode {
     listings(root, capture, &mut tally);
     causes(root, why, &mut tally);
     shown(root, &mut tally);
+    exports(root, Path::new(library), &mut tally);
     println!("{} passed, {} failed", tally.passed, tally.failed);
     ExitCode::from(u8::from(tally.failed > 0))
 }
@@ -312,6 +315,32 @@ fn page_of(program: &str, files: &str) -> Option<String> {
         _ => return None,
     };
     Some(format!("{name}.{kind}"))
+}
+
+/// The header, each archive, the rows of docs/CONTRACTS.md and the table of README.md have the same exported functions.
+fn exports(root: &Path, folder: &Path, tally: &mut Tally) {
+    let declared = library::declared(&text(&folder.join("include/tallowbrim.h")));
+    let page = edits::rows(&text(&root.join(CONTRACTS)));
+    let rows = page.into_iter().map(|(_, name)| name).filter(|name| name.starts_with(library::PREFIX)).collect();
+    tally.fact(!declared.is_empty(), || format!("{} has no header with functions", folder.display()));
+    tally.fact(declared == rows, || format!("{CONTRACTS} and the header differ in {}", unlike(&declared, &rows)));
+    let readme = text(&root.join("README.md"));
+    for name in &declared {
+        tally.fact(readme.contains(&format!("`{name}`")), || format!("README.md does not name {name}"));
+    }
+    for (place, processor) in library::ARCHIVES {
+        let archive = library::archive(&folder.join(place).join("libtallowbrim.a")).unwrap_or_default();
+        let library::Archive { functions, asked, processors } = archive;
+        let differ = || format!("the archive {place} and the header differ in {}", unlike(&declared, &functions));
+        tally.fact(functions == declared, differ);
+        tally.fact(processors == [processor].into(), || format!("the archive {place} is for {processors:?}"));
+        let known = |name: &&String| library::ASKED.contains(&name.as_str());
+        tally.fact(asked.iter().all(|name| known(&name)), || format!("the archive {place} asks for {asked:?}"));
+    }
+}
+
+fn unlike(one: &BTreeSet<String>, other: &BTreeSet<String>) -> String {
+    one.symmetric_difference(other).map(String::as_str).collect::<Vec<_>>().join(", ")
 }
 
 fn content(path: &Path) -> Vec<u8> {

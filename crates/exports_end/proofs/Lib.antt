@@ -1,0 +1,4 @@
+pub mod EndLaws
+mod Example
+pub mod Values
+mod Ways

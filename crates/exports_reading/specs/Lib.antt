@@ -1,0 +1,2 @@
+pub mod Payloads
+pub mod Names
