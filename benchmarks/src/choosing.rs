@@ -1,6 +1,6 @@
 //! Times choosing over an offer of eight sets against eight lines, AH with ESP each: the core and the second program.
 
-use crate::exports;
+use crate::raw;
 use crate::samples;
 use crate::timing;
 use second::policy::{self, Choice};
@@ -40,7 +40,7 @@ fn core(book: &[u8], message: &[u8]) -> Answer {
     let mut out = [0; 5];
     // SAFETY: these are those of slices that outlive the call, and the core asks no more.
     let refusal =
-        unsafe { exports::tallowbrim_choose(book.as_ptr(), book.len(), message.as_ptr(), message.len(), &mut out) };
+        unsafe { raw::tallowbrim_choose(book.as_ptr(), book.len(), message.as_ptr(), message.len(), &mut out) };
     (refusal, out)
 }
 

@@ -1,6 +1,6 @@
 //! Times one whole exchange of quick mode, from two fresh ends to both open: the core, lent call by call, and the second program's own ends.
 
-use crate::exports::{self, BUFFER, END};
+use crate::raw;
 use crate::samples;
 use crate::timing;
 use second::quick::{End, Lent, Role, State, Step};
@@ -17,7 +17,9 @@ const AH: u32 = 0x1000_0001;
 const ESP: u32 = 0x1000_0002;
 const NONCES: [[u8; 16]; 2] = [[0xa5; 16], [0x5a; 16]];
 
-/// The number of the state Open (include/tallowbrim.h).
+/// The size of an end, the least room of its buffers, and the number of the state Open (include/tallowbrim.h).
+const END: usize = 398;
+const BUFFER: usize = 2_048;
 const OPEN: u64 = 3;
 
 /// The initiator's book and the responder's, and the body of both identities.
@@ -102,7 +104,7 @@ fn core(given: &Given, [initiator, responder]: &mut [Seat; 2]) -> Result<[usize;
 impl Seat {
     fn fresh(&mut self, initiator: bool, book: &[u8], nonce: &[u8]) -> Result<(), u32> {
         match unsafe {
-            exports::tallowbrim_fresh(
+            raw::tallowbrim_fresh(
                 &mut self.end,
                 initiator,
                 ICOOKIE,
@@ -123,7 +125,7 @@ impl Seat {
     fn begin(&mut self, identity: &[u8]) -> Result<usize, u32> {
         let mut out = [0; 2];
         let refusal = unsafe {
-            exports::tallowbrim_begin(
+            raw::tallowbrim_begin(
                 &mut self.end,
                 MESSAGE_ID,
                 identity.as_ptr(),
@@ -145,7 +147,7 @@ impl Seat {
     fn deliver(&mut self, message: &[u8]) -> Result<usize, u32> {
         let mut out = [0; 2];
         let refusal = unsafe {
-            exports::tallowbrim_deliver(
+            raw::tallowbrim_deliver(
                 &mut self.end,
                 true,
                 message.as_ptr(),
@@ -165,7 +167,7 @@ impl Seat {
     fn tick(&mut self) -> Result<usize, u32> {
         let mut out = [0; 2];
         let refusal = unsafe {
-            exports::tallowbrim_tick(
+            raw::tallowbrim_tick(
                 &mut self.end,
                 self.sent.as_ptr(),
                 BUFFER,
@@ -181,7 +183,7 @@ impl Seat {
 
     fn state(&self) -> u64 {
         let mut out = [0; 4];
-        unsafe { exports::tallowbrim_state(&self.end, &mut out) };
+        unsafe { raw::tallowbrim_state(&self.end, &mut out) };
         out[0]
     }
 }

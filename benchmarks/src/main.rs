@@ -3,7 +3,6 @@
 
 mod choosing;
 mod exchange;
-mod exports;
 mod reading;
 mod replying;
 mod samples;
@@ -11,6 +10,11 @@ mod sequence;
 mod streams;
 mod timing;
 mod window;
+
+/// The core over the boundary that other languages use, of which some calls are timed.
+#[allow(dead_code)]
+#[path = "../../bindings/rust/src/raw.rs"]
+mod raw;
 
 fn main() {
     println!("Nanoseconds a step or a packet, from a record or a table at its beginning.");

@@ -1,6 +1,6 @@
 //! Times the reading of a message: the core and the second program.
 
-use crate::exports;
+use crate::raw;
 use crate::samples;
 use crate::timing;
 use second::message;
@@ -46,7 +46,7 @@ fn read(reader: fn(&[u8]) -> Answer, message: &[u8]) {
 fn core(message: &[u8]) -> Answer {
     let mut out = [0; 2];
     // SAFETY: the two are those of a slice that outlives the call, and the core asks no more.
-    let refusal = unsafe { exports::tallowbrim_message(message.as_ptr(), message.len(), &mut out) };
+    let refusal = unsafe { raw::tallowbrim_message(message.as_ptr(), message.len(), &mut out) };
     (refusal, out)
 }
 

@@ -1,6 +1,6 @@
 //! Times replying to an offer of eight sets by a book of eight lines, AH with ESP each: the core and the second program.
 
-use crate::exports::{self, BUFFER};
+use crate::raw;
 use crate::samples;
 use crate::timing;
 use second::reply::{self, Spis};
@@ -10,6 +10,7 @@ const REPLIES_A_ROUND: usize = 100;
 
 const AH: u32 = 0x1000_0001;
 const ESP: u32 = 0x1000_0002;
+const BUFFER: usize = 2_048;
 
 /// The core's time over the second program's, where only the last set suits, and it only the last line.
 pub fn ratio() -> f64 {
@@ -46,7 +47,7 @@ fn core(book: &[u8], message: &[u8], buffer: &mut [u8; BUFFER]) -> (u32, [u64; 1
     let mut out = [0];
     // SAFETY: these are those of slices that outlive the call, the lent one overlaps no other, and the core asks no more.
     let refusal = unsafe {
-        exports::tallowbrim_reply(
+        raw::tallowbrim_reply(
             book.as_ptr(),
             book.len(),
             message.as_ptr(),

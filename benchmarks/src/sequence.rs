@@ -1,19 +1,20 @@
 //! Times one packet into a table of 64 lives, and one step of the record lent alone: the core, the peer in Rust and plain C.
 
-use crate::exports::{self, TABLE};
+use crate::raw;
 use crate::streams::{self, Order, Packet};
 use crate::timing;
 use crate::window::{self, Life, Window, ACCEPTED, LIVES};
 use std::hint::black_box;
 
-type Step = unsafe extern "C" fn(&mut Window, u32, bool) -> u32;
+/// How many words the core's table has (include/tallowbrim.h).
+const TABLE: usize = 384;
+
+type Step<Record> = unsafe extern "C" fn(&mut Record, u32, bool) -> u32;
 
 /// The table, destination, protocol, integrity, and a slice of bytes: where it begins, and its length.
 type PacketInto<Table> = unsafe extern "C" fn(&mut Table, u32, u8, bool, *const u8, usize) -> u32;
 
 extern "C" {
-    /// The record's two words are the peers' window.
-    fn tallowbrim_step(record: &mut Window, number: u32, integrity: bool) -> u32;
     fn plain_c_step(window: &mut Window, number: u32, integrity: bool) -> u32;
     fn plain_c_packet(
         lives: &mut [Life; LIVES],
@@ -33,9 +34,12 @@ type Ratios = [f64; 2];
 pub fn record() -> Ratios {
     greatest(ORDERS.map(|(order_name, order)| {
         let stream = &streams::packets(order, 1);
-        let calls = black_box([tallowbrim_step as Step, window::step, plain_c_step]);
-        let [core, rust, c] = calls;
-        let accepted = alike(order_name, calls.map(|call| steps(call, stream).collect()));
+        let core = black_box(raw::tallowbrim_step as Step<[u64; 2]>);
+        let [rust, c] = black_box([window::step as Step<Window>, plain_c_step]);
+        let accepted = alike(
+            order_name,
+            [steps(core, stream).collect(), steps(rust, stream).collect(), steps(c, stream).collect()],
+        );
         let times = timing::medians(
             [&|| sum(steps(core, stream)), &|| sum(steps(rust, stream)), &|| sum(steps(c, stream))],
             stream.len(),
@@ -47,7 +51,7 @@ pub fn record() -> Ratios {
 pub fn table() -> Ratios {
     greatest(ORDERS.map(|(order_name, order)| {
         let stream = &streams::packets(order, LIVES);
-        let core = black_box(exports::tallowbrim_packet as PacketInto<[u64; TABLE]>);
+        let core = black_box(raw::tallowbrim_packet as PacketInto<[u64; TABLE]>);
         let [rust, c] = black_box([window::packet as PacketInto<[Life; LIVES]>, plain_c_packet]);
         let (words, lives) = (words(), lives());
         let accepted = alike(
@@ -67,8 +71,8 @@ pub fn table() -> Ratios {
 }
 
 /// The verdicts of a record's steps, from its beginning.
-fn steps(call: Step, stream: &[Packet]) -> impl Iterator<Item = u32> + '_ {
-    let mut record = Window::default();
+fn steps<Record: Default>(call: Step<Record>, stream: &[Packet]) -> impl Iterator<Item = u32> + use<'_, Record> {
+    let mut record = Record::default();
     // SAFETY: each of the three takes any record and any number.
     stream.iter().map(move |packet| unsafe { call(&mut record, packet.number, packet.integrity) })
 }
@@ -101,7 +105,7 @@ fn words() -> [u64; TABLE] {
     let mut table = [0; TABLE];
     for key in streams::keys() {
         // SAFETY: the core takes any table and any key.
-        let refusal = unsafe { exports::tallowbrim_add(&mut table, key.destination, key.protocol, key.spi) };
+        let refusal = unsafe { raw::tallowbrim_add(&mut table, key.destination, key.protocol, key.spi) };
         assert_eq!(refusal, 0, "a life of 64 that was not added");
     }
     table

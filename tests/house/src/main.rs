@@ -33,6 +33,9 @@ const PAGES: &[&str] = &[
     "tests/README.md",
     "samples/README.md",
     "benchmarks/README.md",
+    "bindings/c/README.md",
+    "bindings/rust/README.md",
+    "bindings/jvm/README.md",
 ];
 
 /// Counts the facts, and says which does not hold.

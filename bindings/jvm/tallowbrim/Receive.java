@@ -1,0 +1,33 @@
+package tallowbrim;
+
+/** What arrived of one life of an SA. For one thread at a time. */
+public final class Receive {
+    private static final int WORDS = 2;
+
+    private final long[] words;
+
+    /** A life that begins. */
+    public Receive() {
+        this(new long[WORDS]);
+    }
+
+    /** A life as it was, by its {@link #words}. */
+    public Receive(long[] words) {
+        this.words = Lent.record(words, WORDS).clone();
+    }
+
+    public long[] words() {
+        return words.clone();
+    }
+
+    /** A packet's number arrives, its integrity holding or not: accepted, where it is not refused. */
+    public void step(long number, boolean integrity) throws Refusal {
+        Lent.done(Native.step(words, Lent.number32(number), integrity));
+    }
+
+    public LossLine lossLine() {
+        long[] out = new long[3];
+        Native.lossLine(words, out);
+        return LossLine.of(out);
+    }
+}

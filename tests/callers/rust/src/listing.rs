@@ -1,0 +1,56 @@
+//! The line `frame`: what `./capture` prints of a record behind its stamp.
+
+use crate::{accepted, places, said};
+use tallowbrim::{Addresses, Carried, Datagram, Listed, Table};
+
+pub fn frame(table: &mut Table, original: u32, record: &[u8]) -> String {
+    match tallowbrim::record(table, original, record) {
+        Listed::CutShort => "cut short".to_string(),
+        Listed::NotIpv4 => "not IPv4".to_string(),
+        Listed::Fragment(between) => format!("{} fragment", shown(between)),
+        Listed::OtherProtocol(between, protocol) => format!("{} other protocol {protocol}", shown(between)),
+        Listed::OtherPorts(between, ports) => {
+            format!("{} other ports {} > {}", shown(between), ports.source, ports.destination)
+        }
+        Listed::Keepalive(between) => format!("{} keepalive", shown(between)),
+        Listed::Enciphered { addresses, exchange, id } => {
+            format!("{} enciphered exchange {exchange} id {id:08x}", shown(addresses))
+        }
+        Listed::Read { addresses, exchange, count } => {
+            let places = said(places(message_of(original, record), count));
+            format!("{} exchange {exchange} payloads {count}{places}", shown(addresses))
+        }
+        Listed::Refused(between, refusal) => format!("{} {}", shown(between), said(Err(refusal))),
+        Listed::ShortPacket { addresses, protocol, refusal } => {
+            format!("{} {} {}", shown(addresses), name(protocol), said(Err(refusal)))
+        }
+        Listed::Packet { addresses, protocol, spi, number, verdict } => {
+            let verdict = accepted(verdict);
+            format!("{} {} {spi:08x} number {number} {verdict}", shown(addresses), name(protocol))
+        }
+    }
+}
+
+fn shown(Addresses { source, destination }: Addresses) -> String {
+    format!("{source} > {destination}")
+}
+
+fn name(protocol: u8) -> &'static str {
+    if protocol == tallowbrim::AH {
+        "AH"
+    } else {
+        "ESP"
+    }
+}
+
+/// The message in a record that carries one.
+fn message_of(original: u32, record: &[u8]) -> &[u8] {
+    match tallowbrim::carried(original, record) {
+        Carried::Message(_, part) => part.of(record),
+        Carried::Datagram(_, part) => match tallowbrim::datagram(part.of(record)) {
+            Ok(Datagram::KeyExchange(message)) => message.of(part.of(record)),
+            _ => &[],
+        },
+        _ => &[],
+    }
+}
