@@ -1,12 +1,11 @@
 -- A law for each way out of the functions that read and write an end's bytes.
-use Prim.Native.Nat.{ℕ, _+_, _*_, _/_, _%_}
+use Prim.Native.Nat.{ℕ, _+_, _/_, _%_}
 use mathlib.Core.Path.{_≡_, refl, ap, _∙_}
 use mathlib.Core.List.{List, [], _∷_, _++_}
 use native.Mathlib.Omega.{arith}
 use lib.ListN.{length, getD, drop, replicate, length-append}
 use borrow.Author.Tests.{eq-eqb, ne-eqb}
 use Rattle.wire_read.specs.Wire.{numberAt}
-use Rattle.wire_read.proofs.Laws.{number-join}
 use Rattle.wire_write.specs.Put.{bytesOf, paste}
 use Rattle.wire_write.proofs.Laws.{two-bytes, four-bytes, paste-append}
 use Rattle.policy_choice.specs.declared.Transforms.{Transforms}
@@ -58,9 +57,6 @@ module _ (number : ℕ) where
         pub state-given-up : (number ≡ 3 → ⊥) → GivenUp ≡ stateOf number
         unfolding stateOf
         state-given-up h = rw (ne-eqb number 0 some, ne-eqb number 1 not-sent, ne-eqb number 2 not-half, ne-eqb number 3 h)
-
-pub eight-read : (s : List ℕ) (i a b : ℕ) → a ≡ numberAt 4 s i → b ≡ numberAt 4 s (i + 4) → a * 4294967296 + b ≡ numberAt 8 s i
-eight-read s i a b ea eb = rw (number-join 4 4 s i) (omega arith)
 
 module _ (s : List ℕ) (count first second : ℕ) (ec : count ≡ getD s 0 0) where
   module _ (ef : first ≡ getD s 1 0) where
@@ -207,24 +203,6 @@ module _ (progress : Progress) where
       let first : b1 ≡ paste l 0 upToAgreed =
       rw (four-bytes (progress .id), two-bytes (progress .sentsize), two-bytes (progress .gotsize), ← en) e1 in
       behind l b1 b2 0 10 upToAgreed (agreedBytes (progress .agreed)) ten-bytes first e2
-
-abbrev eightBytes : ℕ → List ℕ
-eightBytes x =
-    x / 72057594037927936 % 256 ∷ x / 281474976710656 % 256 ∷ x / 1099511627776 % 256 ∷ x / 4294967296 % 256 ∷ fourBytes x []
-
-eight-bytes : (x : ℕ) → bytesOf 8 x ≡ eightBytes x
-unfolding bytesOf
-eight-bytes x =
-    let e2 : x / 256 / 256 ≡ x / 65536 = omega arith in
-    let e3 : x / 256 / 256 / 256 ≡ x / 16777216 = omega arith in
-    let e4 : x / 256 / 256 / 256 / 256 ≡ x / 4294967296 = omega arith in
-    let e5 : x / 256 / 256 / 256 / 256 / 256 ≡ x / 1099511627776 = omega arith in
-    let e6 : x / 256 / 256 / 256 / 256 / 256 / 256 ≡ x / 281474976710656 = omega arith in
-    let e7 : x / 256 / 256 / 256 / 256 / 256 / 256 / 256 ≡ x / 72057594037927936 = omega arith in
-    rw (e7, e6, e5, e4, e3, e2)
-
-pub eight-written : (x i : ℕ) (l b : List ℕ) → b ≡ paste l i (eightBytes x) → b ≡ paste l i (bytesOf 8 x)
-eight-written x i l b h = rw (eight-bytes x) h
 
 module _ (own : Own) where
   abbrev upToCookies : List ℕ

@@ -13,12 +13,13 @@ use sa_fields::TransformNumber;
 use wire_read::after;
 use wire_read::be16;
 use wire_read::be32;
+use wire_read::be64;
 use wire_read::byte;
 use wire_write::put_be32;
+use wire_write::put_be64;
 use wire_write::put_bytes;
 ghost use mathlib.Core.Path.{_≡_};
-ghost use Rattle.wire_read.specs.Wire.{numberAt};
-ghost use Rattle.wire_write.specs.Put.{bytesOf, paste};
+ghost use Rattle.wire_write.specs.Put.{paste};
 ghost use Rattle.exports_end.specs.Ends.{stateNumber, stateOf, roleNumber, roleOf, transformsValues, spisValues, spisBytes, agreedBytes, progressBytes, ownBytes, endBytes, transformsOf, spisIn, agreedOf, progressOf, ownIn, endOf};
 
 pub fn state_number(state: State) -> u8
@@ -153,25 +154,6 @@ pub fn put_progress(s: &mut [u8], progress: Progress)
     put_agreed(s, agreed);
 }
 
-fn put_cookie(s: &mut [u8], at: usize, x: u64)
-    ensures { λ _. ⌜ now (s .exit) ≡ paste (now (s .entry)) at (bytesOf 8 x) ⌝ }
-{
-    put_bytes(
-        s,
-        at,
-        &[
-            (x / 72057594037927936 % 256) as u8,
-            (x / 281474976710656 % 256) as u8,
-            (x / 1099511627776 % 256) as u8,
-            (x / 4294967296 % 256) as u8,
-            (x / 16777216 % 256) as u8,
-            (x / 65536 % 256) as u8,
-            (x / 256 % 256) as u8,
-            (x % 256) as u8,
-        ],
-    );
-}
-
 // Writes what an end is given once, behind its progress.
 fn put_own(s: &mut [u8], own: Own)
     ensures { λ _. ⌜ now (s .exit) ≡ paste (now (s .entry)) 32 (ownBytes own) ⌝ }
@@ -188,8 +170,8 @@ fn put_own(s: &mut [u8], own: Own)
             (size % 256) as u8,
         ],
     );
-    put_cookie(s, 36, own.icookie);
-    put_cookie(s, 44, own.rcookie);
+    put_be64(s, 36, own.icookie);
+    put_be64(s, 44, own.rcookie);
     put_be32(s, 52, own.ah);
     put_be32(s, 56, own.esp);
     put_bytes(s, 60, &own.book);
@@ -254,14 +236,6 @@ pub fn progress_of(s: &[u8]) -> Progress
     }
 }
 
-fn cookie_in(s: &[u8], at: u8) -> u64
-    ensures { λ r. ⌜ r ≡ numberAt 8 (now (s .entry)) at ⌝ }
-{
-    let high = be32(s, at as usize);
-    let low = be32(s, at as usize + 4);
-    high as u64 * 4294967296 + low as u64
-}
-
 fn own_in(s: &[u8]) -> Own
     ensures { λ r. ⌜ r ≡ ownIn (now (s .entry)) ⌝ }
 {
@@ -272,8 +246,8 @@ fn own_in(s: &[u8]) -> Own
     put_bytes(&mut nonce, 0, after(s, 110));
     Own {
         role,
-        icookie: cookie_in(s, 4),
-        rcookie: cookie_in(s, 12),
+        icookie: be64(s, 4),
+        rcookie: be64(s, 12),
         ah: be32(s, 20),
         esp: be32(s, 24),
         booksize: byte(s, 1),

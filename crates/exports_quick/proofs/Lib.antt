@@ -1,2 +1,1 @@
-pub mod LentLaws
 mod Ways

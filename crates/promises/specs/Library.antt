@@ -2,14 +2,13 @@
 -- call; a buffer, a table and a record beside them. And that every record that is lent is encoded to what decodes to it again.
 use Prim.Native.Nat.{ℕ, _*_, _<_}
 use mathlib.Core.Path.{_≡_, refl, sym, ap, _∙_}
-use mathlib.Core.List.{List, [], _∷_}
+use mathlib.Core.List.{List, []}
 use mathlib.Core.Bool.{Bool, true, false}
 use lib.ListN.{length}
 use lib.Dec.{eqb, ltb, leb}
 use Rattle.wire_read.specs.Wire.{Bytes}
-use Rattle.wire_read.specs.Tests.{if_then_else_}
-use Rattle.wire_read.specs.Answer.{Answer, done, refused}
-use Rattle.wire_read.proofs.Tests.{never, clash, by-test}
+use Rattle.wire_read.specs.Answer.{Answer, refused}
+use Rattle.wire_read.proofs.Tests.{clash, by-test}
 use Rattle.port4500.specs.Port.{datagram, datagramAnswer}
 use Rattle.port4500.specs.declared.Datagram.{Datagram}
 use Rattle.port4500.specs.declared.Datagram.the-variants as datagrams
@@ -33,9 +32,9 @@ use Rattle.policy_why.specs.declared.Why.the-variants as whys
 use Rattle.policy_why.specs.declared.Offer.{Offer}
 use Rattle.policy_why.specs.declared.Offer.the-variants as offers
 use Rattle.policy_why.specs.declared.Places.{Places}
-use Rattle.sequence_record.specs.Receive.{judged, verdictAnswer}
+use Rattle.sequence_record.specs.Receive.{judged}
 use Rattle.sequence_record.specs.declared.Receive.{Receive}
-use Rattle.sequence_table.specs.Table.{Table, rooms, words as tableWords, entryAt, putEntry, added, removed, packet, nextToSend, loss, outcomeAnswer, sendingAnswer, countedAnswer}
+use Rattle.sequence_table.specs.Table.{Table, rooms, words as tableWords, entryAt, putEntry, added, removed, packet, nextToSend, loss, sendingAnswer, countedAnswer}
 use Rattle.sequence_table.specs.declared.table.Key.{Key}
 use Rattle.sequence_table.specs.declared.table.Entry.{Entry}
 use Rattle.sequence_table.specs.declared.table.Sending.{Sending}
@@ -47,7 +46,6 @@ use Rattle.sequence_history.specs.History.{isDone, answered, adds, removes, sho
 use Rattle.sequence_history.proofs.Record.{judged-refused}
 use Rattle.sequence_history.proofs.Ways.{refused-nothing}
 use Rattle.capture_header.specs.Headers.{fileHeader, fileHeaderAnswer, recordHeader, recordHeaderAnswer}
-use Rattle.capture_header.specs.declared.Order.{Order}
 use Rattle.capture_header.specs.declared.FileHeader.{FileHeader}
 use Rattle.capture_header.specs.declared.FileHeader.the-variants as files
 use Rattle.capture_header.specs.declared.RecordHeader.{RecordHeader}
@@ -73,7 +71,7 @@ use Rattle.exports_policy.specs.Choices.{chosenAnswer}
 use Rattle.exports_policy.specs.Replies.{replyGiven}
 use Rattle.exports_policy.proofs.ChoiceLaws as ChoiceLaws
 use Rattle.exports_why.specs.Places.{placeAnswer, offerPlace}
-use Rattle.exports_sequence.specs.Records.{receiveOf, receiveWords, stepped, keyOf, outcomeGiven, verdictGiven, sendingGiven}
+use Rattle.exports_sequence.specs.Records.{receiveOf, receiveWords, stepped, outcomeGiven, verdictGiven, sendingGiven}
 use Rattle.exports_sequence.proofs.RecordLaws as RecordLaws
 use Rattle.exports_capture.specs.Orders.{orderOf}
 

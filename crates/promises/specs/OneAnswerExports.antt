@@ -1,7 +1,7 @@
 -- No second answer, of what other languages call (OneAnswer.antt says what that is). Beside the number are seen the words of `out`, and a
 -- lent buffer or table behind them; of a call on an end, the end and the buffers too.
 use Prim.Native.Nat.{ℕ}
-use mathlib.Core.Path.{_≡_, sym, ap, _∙_}
+use mathlib.Core.Path.{sym, ap, _∙_}
 use mathlib.Core.List.{List}
 use denote.Ref.{now}
 use Rattle.promises.specs.OneAnswer.{OneAnswer, result, buffer, resultAndBuffer}

@@ -7,6 +7,8 @@ use Rattle.wire_read.proofs.be16.Kinds as be16-kinds
 use Rattle.wire_read.proofs.be16.Reads as be16-reads
 use Rattle.wire_read.proofs.be32.Kinds as be32-kinds
 use Rattle.wire_read.proofs.be32.Reads as be32-reads
+use Rattle.wire_read.proofs.be64.Kinds as be64-kinds
+use Rattle.wire_read.proofs.be64.Reads as be64-reads
 use Rattle.wire_read.proofs.front.Kinds as front-kinds
 use Rattle.wire_read.proofs.front.Reads as front-reads
 use Rattle.wire_read.proofs.after.Kinds as after-kinds
@@ -23,6 +25,8 @@ use Rattle.wire_write.proofs.put_be16.Kinds as put-be16-kinds
 use Rattle.wire_write.proofs.put_be16.Reads as put-be16-reads
 use Rattle.wire_write.proofs.put_be32.Kinds as put-be32-kinds
 use Rattle.wire_write.proofs.put_be32.Reads as put-be32-reads
+use Rattle.wire_write.proofs.put_be64.Kinds as put-be64-kinds
+use Rattle.wire_write.proofs.put_be64.Reads as put-be64-reads
 use Rattle.wire_write.proofs.put_head.Kinds as put-head-kinds
 use Rattle.wire_write.proofs.put_head.Reads as put-head-reads
 use Rattle.wire_write.proofs.put_headed.Kinds as put-headed-kinds
@@ -36,6 +40,9 @@ wire-read-be16 κs arguments x y s t p q = p ∙ sym q
 
 pub wire-read-be32 : OneAnswer 1 be32-kinds.ps be32-kinds.r result be32-reads.Post
 wire-read-be32 κs arguments x y s t p q = p ∙ sym q
+
+pub wire-read-be64 : OneAnswer 1 be64-kinds.ps be64-kinds.r result be64-reads.Post
+wire-read-be64 κs arguments x y s t p q = p ∙ sym q
 
 pub wire-read-front : OneAnswer 1 front-kinds.ps front-kinds.r part front-reads.Post
 wire-read-front κs arguments x y s t p q = p ∙ sym q
@@ -60,6 +67,9 @@ wire-write-put-be16 κs arguments x y s t p q = p ∙ sym q
 
 pub wire-write-put-be32 : OneAnswer 1 put-be32-kinds.ps put-be32-kinds.r buffer put-be32-reads.Post
 wire-write-put-be32 κs arguments x y s t p q = p ∙ sym q
+
+pub wire-write-put-be64 : OneAnswer 1 put-be64-kinds.ps put-be64-kinds.r buffer put-be64-reads.Post
+wire-write-put-be64 κs arguments x y s t p q = p ∙ sym q
 
 pub wire-write-put-head : OneAnswer 1 put-head-kinds.ps put-head-kinds.r buffer put-head-reads.Post
 wire-write-put-head κs arguments x y s t p q = p ∙ sym q

@@ -1,14 +1,12 @@
 -- A law for each way out of the functions that read.
-use Prim.Native.Nat.{ℕ, _+_, _*_, _≤_, _<_}
-use mathlib.Core.Path.{_≡_, sym}
+use Prim.Native.Nat.{ℕ, _≤_, _<_}
+use mathlib.Core.Path.{_≡_}
 use mathlib.Core.List.{List}
 use mathlib.Core.Bool.{Bool, true, false, not, _&&_}
-use native.Mathlib.Omega.{arith}
 use lib.ListN.{length, getD}
 use lib.Dec.{eqb}
 use borrow.Author.Tests.{eq-eqb, ne-eqb, lt-ltb, le-ltb}
 use Rattle.wire_read.specs.Wire.{numberAt}
-use Rattle.wire_read.proofs.Laws.{number-join, number-past}
 use Rattle.message_chain.specs.declared.Message.{Message}
 use Rattle.message_chain.specs.declared.Message.the-variants.{Refused, Read}
 use Rattle.quick_end.specs.Fresh.{isIdle, isInitiator}
@@ -16,14 +14,6 @@ use Rattle.quick_shape.specs.Shapes.{shape}
 use Rattle.quick_check.specs.Checks.{cookiesNotOwn, quickCode, readCode}
 use Rattle.quick_end.specs.declared.State.{State}
 use Rattle.quick_end.specs.declared.Own.{Own}
-
--- ---- a 64-bit number
-
-pub eight-read : (s : List ℕ) (i a b : ℕ) → a ≡ numberAt 4 s i → b ≡ numberAt 4 s (i + 4) → a * 4294967296 + b ≡ numberAt 8 s i
-eight-read s i a b ea eb = rw (number-join 4 4 s i) (omega arith)
-
-pub none-read : (s : List ℕ) (i : ℕ) → length s ≤ i → 0 ≡ numberAt 8 s i
-none-read s i h = sym (number-past 8 s i h)
 
 -- ---- the checks
 

@@ -6,20 +6,10 @@ use quick_end::is_idle;
 use quick_end::is_initiator;
 use quick_shape::shape;
 use wire_read::be32;
+use wire_read::be64;
 use wire_read::byte;
 ghost use mathlib.Core.Path.{_≡_};
-ghost use Rattle.wire_read.specs.Wire.{numberAt};
 ghost use Rattle.quick_check.specs.Checks.{cookiesNotOwn, quickCode, readCode};
-
-fn be64(s: &[u8], at: usize) -> u64
-    ensures { λ r. ⌜ r ≡ numberAt 8 (now (s .entry)) at ⌝ }
-{
-    if at < s.len() {
-        be32(s, at) as u64 * 4294967296 + be32(s, at + 4) as u64
-    } else {
-        0
-    }
-}
 
 fn cookies_not_own(own: Own, m: &[u8]) -> bool
     ensures { λ r. ⌜ r ≡ cookiesNotOwn own (now (m .entry)) ⌝ }

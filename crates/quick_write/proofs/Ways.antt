@@ -21,27 +21,6 @@ use Rattle.quick_write.specs.declared.Proposals.{Proposals}
 use Rattle.quick_write.specs.declared.Written.the-variants.{Size, TooLong}
 use Rattle.quick_write.specs.declared.Proposals.the-variants.{Offer, Reply}
 
--- ---- numbers
-
-abbrev eightBytes : ℕ → List ℕ
-eightBytes x =
-    x / 72057594037927936 % 256 ∷ x / 281474976710656 % 256 ∷ x / 1099511627776 % 256 ∷ x / 4294967296 % 256
-    ∷ x / 16777216 % 256 ∷ x / 65536 % 256 ∷ x / 256 % 256 ∷ x % 256 ∷ []
-
-pub eight-bytes : (x : ℕ) → bytesOf 8 x ≡ eightBytes x
-unfolding bytesOf
-eight-bytes x =
-    let e2 : x / 256 / 256 ≡ x / 65536 = omega arith in
-    let e3 : x / 256 / 256 / 256 ≡ x / 16777216 = omega arith in
-    let e4 : x / 256 / 256 / 256 / 256 ≡ x / 4294967296 = omega arith in
-    let e5 : x / 256 / 256 / 256 / 256 / 256 ≡ x / 1099511627776 = omega arith in
-    let e6 : x / 256 / 256 / 256 / 256 / 256 / 256 ≡ x / 281474976710656 = omega arith in
-    let e7 : x / 256 / 256 / 256 / 256 / 256 / 256 / 256 ≡ x / 72057594037927936 = omega arith in
-    rw (e7, e6, e5, e4, e3, e2)
-
-pub eight-written : (x i : ℕ) (l b : List ℕ) → b ≡ paste l i (eightBytes x) → b ≡ paste l i (bytesOf 8 x)
-eight-written x i l b h = rw (eight-bytes x) h
-
 -- ---- the header
 
 behind : (l : List ℕ) (i n : ℕ) (xs ys : List ℕ) → length xs ≡ n → paste (paste l i xs) (i + n) ys ≡ paste l i (xs ++ ys)

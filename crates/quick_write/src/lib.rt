@@ -11,13 +11,14 @@ use quick_end::Own;
 use sa_fields::ProposalNumber;
 use wire_read::front;
 use wire_write::put_be32;
+use wire_write::put_be64;
 use wire_write::put_bytes;
 use wire_write::put_head;
 use wire_write::put_headed;
 ghost use mathlib.Core.Path.{_≡_};
 ghost use Prim.Native.Nat.{min, _+_, _*_, _≤_};
 ghost use lib.ListN.{length};
-ghost use Rattle.wire_write.specs.Put.{bytesOf, paste, put};
+ghost use Rattle.wire_write.specs.Put.{paste, put};
 ghost use Rattle.policy_reply.specs.Reply.{saOf};
 ghost use Rattle.quick_write.specs.Messages.{padding, lineProposal, lineSet, nextSet, lineSets, lines, nonceOf, offerOf, header, around, nonceAndIdentities, proposalsOf, longer, longerInto, messageThree};
 
@@ -38,25 +39,6 @@ fn padding(size: usize) -> usize
     ensures { λ r. ⌜ r ≡ padding size ⌝ }
 {
     (16 - size % 16) % 16
-}
-
-fn put_be64(buffer: &mut [u8], at: usize, x: u64)
-    ensures { λ _. ⌜ now (buffer .exit) ≡ paste (now (buffer .entry)) at (bytesOf 8 x) ⌝ }
-{
-    put_bytes(
-        buffer,
-        at,
-        &[
-            (x / 72057594037927936 % 256) as u8,
-            (x / 281474976710656 % 256) as u8,
-            (x / 1099511627776 % 256) as u8,
-            (x / 4294967296 % 256) as u8,
-            (x / 16777216 % 256) as u8,
-            (x / 65536 % 256) as u8,
-            (x / 256 % 256) as u8,
-            (x % 256) as u8,
-        ],
-    );
 }
 
 fn put_header(buffer: &mut [u8], own: Own, id: u32, size: u32)

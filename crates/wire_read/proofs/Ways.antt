@@ -22,6 +22,9 @@ module _ (s : List ℕ) (i a b : ℕ) where
   pub half-read : a ≡ numberAt 2 s i → b ≡ numberAt 2 s (i + 2) → a * 65536 + b ≡ numberAt 4 s i
   half-read ea eb = rw (number-join 2 2 s i) (omega arith)
 
+  pub halves-read : a ≡ numberAt 4 s i → b ≡ numberAt 4 s (i + 4) → a * 4294967296 + b ≡ numberAt 8 s i
+  halves-read ea eb = rw (number-join 4 4 s i) (omega arith)
+
 pub one-read : (s : List ℕ) (i a : ℕ) → i < length s → length s - i < 2 → a ≡ getD s i 0 → a * 256 ≡ numberAt 2 s i
 one-read s i a l h ea =
     let short : length s ≤ i + 1 = omega arith in

@@ -41,6 +41,17 @@ pub fn be32(s: &[u8], at: usize) -> u32
         + byte(s, at + 3) as u32
 }
 
+// The 64-bit number at a place.
+pub fn be64(s: &[u8], at: usize) -> u64
+    ensures { λ r. ⌜ r ≡ numberAt 8 (now (s .entry)) at ⌝ }
+{
+    if at < s.len() {
+        be32(s, at) as u64 * 4294967296 + be32(s, at + 4) as u64
+    } else {
+        0
+    }
+}
+
 // The first n bytes; all, where there are fewer.
 pub fn front(s: &[u8], n: usize) -> &[u8]
     ensures { λ r. ⌜ now r ≡ take n (now (s .entry)) ⌝ }

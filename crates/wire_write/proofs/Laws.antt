@@ -14,7 +14,7 @@ use Rattle.wire_write.specs.Put.{bytesOf, head, headed, paste, put}
 
 -- ---- numbers
 
--- the bytes that spell a 16- and a 32-bit number
+-- the bytes that spell a 16-, a 32- and a 64-bit number
 pub two-bytes : (x : ℕ) → bytesOf 2 x ≡ x / 256 % 256 ∷ x % 256 ∷ []
 unfolding bytesOf
 two-bytes x = refl
@@ -25,6 +25,22 @@ four-bytes x =
     let second : x / 256 / 256 ≡ x / 65536 = omega arith in
     let first : x / 256 / 256 / 256 ≡ x / 16777216 = omega arith in
     rw (first, second)
+
+abbrev pub eightBytes : ℕ → List ℕ
+eightBytes x =
+    x / 72057594037927936 % 256 ∷ x / 281474976710656 % 256 ∷ x / 1099511627776 % 256 ∷ x / 4294967296 % 256
+    ∷ x / 16777216 % 256 ∷ x / 65536 % 256 ∷ x / 256 % 256 ∷ x % 256 ∷ []
+
+pub eight-bytes : (x : ℕ) → bytesOf 8 x ≡ eightBytes x
+unfolding bytesOf
+eight-bytes x =
+    let e2 : x / 256 / 256 ≡ x / 65536 = omega arith in
+    let e3 : x / 256 / 256 / 256 ≡ x / 16777216 = omega arith in
+    let e4 : x / 256 / 256 / 256 / 256 ≡ x / 4294967296 = omega arith in
+    let e5 : x / 256 / 256 / 256 / 256 / 256 ≡ x / 1099511627776 = omega arith in
+    let e6 : x / 256 / 256 / 256 / 256 / 256 / 256 ≡ x / 281474976710656 = omega arith in
+    let e7 : x / 256 / 256 / 256 / 256 / 256 / 256 / 256 ≡ x / 72057594037927936 = omega arith in
+    rw (e7, e6, e5, e4, e3, e2)
 
 pub length-bytesOf : (n x : ℕ) → length (bytesOf n x) ≡ n
 unfolding bytesOf

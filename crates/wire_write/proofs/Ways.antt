@@ -5,7 +5,7 @@ use mathlib.Core.List.{List, [], _∷_}
 use lib.ListN.{length, getD, drop, set, drop-of-length-le}
 use Rattle.wire_write.specs.Put.{bytesOf, head, paste}
 use Rattle.wire_read.proofs.Laws.{part-next}
-use Rattle.wire_write.proofs.Laws.{two-bytes, four-bytes, paste-past}
+use Rattle.wire_write.proofs.Laws.{two-bytes, four-bytes, eightBytes, eight-bytes, paste-past}
 
 module _ (x i : ℕ) (buffer written : List ℕ) where
   pub two-written : written ≡ paste buffer i (x / 256 % 256 ∷ x % 256 ∷ []) → written ≡ paste buffer i (bytesOf 2 x)
@@ -13,6 +13,9 @@ module _ (x i : ℕ) (buffer written : List ℕ) where
 
   pub four-written : written ≡ paste buffer i (x / 16777216 % 256 ∷ x / 65536 % 256 ∷ x / 256 % 256 ∷ x % 256 ∷ []) → written ≡ paste buffer i (bytesOf 4 x)
   four-written h = rw (four-bytes x) h
+
+  pub eight-written : written ≡ paste buffer i (eightBytes x) → written ≡ paste buffer i (bytesOf 8 x)
+  eight-written h = rw (eight-bytes x) h
 
   pub head-written : (next : ℕ) → written ≡ paste buffer i (next ∷ 0 ∷ x / 256 % 256 ∷ x % 256 ∷ []) → written ≡ paste buffer i (head next x)
   unfolding head

@@ -50,6 +50,26 @@ pub fn put_be32(buffer: &mut [u8], at: usize, x: u32)
     );
 }
 
+// Writes a 64-bit number.
+pub fn put_be64(buffer: &mut [u8], at: usize, wide: u64)
+    ensures { λ _. ⌜ now (buffer .exit) ≡ paste (now (buffer .entry)) at (bytesOf 8 wide) ⌝ }
+{
+    put_bytes(
+        buffer,
+        at,
+        &[
+            (wide / 72057594037927936 % 256) as u8,
+            (wide / 281474976710656 % 256) as u8,
+            (wide / 1099511627776 % 256) as u8,
+            (wide / 4294967296 % 256) as u8,
+            (wide / 16777216 % 256) as u8,
+            (wide / 65536 % 256) as u8,
+            (wide / 256 % 256) as u8,
+            (wide % 256) as u8,
+        ],
+    );
+}
+
 // Writes what a payload, a proposal and a transform begin with: next, reserved, and the length.
 pub fn put_head(buffer: &mut [u8], at: usize, next: u8, size: usize)
     ensures { λ _. ⌜ now (buffer .exit) ≡ paste (now (buffer .entry)) at (head next size) ⌝ }

@@ -28,5 +28,5 @@ put-own-spec =
     let icookie = rcookie .before .before .before .before in
     let first = icookie .before .before .before .before in
     let role = first .before .before in
-    own-written _ _ _ _ _ _ _ _ _ _ (role .role-number .ensures) (book .before .put-bytes-arg5 .given .0) (first .put-bytes .ensures) (icookie .put-cookie .ensures)
-    (rcookie .put-cookie2 .ensures) (ah .put-be32 .ensures) (esp .put-be322 .ensures) (book .put-bytes2 .ensures) (nonce .put-bytes3 .ensures)))
+    own-written _ _ _ _ _ _ _ _ _ _ (role .role-number .ensures) (book .before .put-bytes-arg5 .given .0) (first .put-bytes .ensures) (icookie .put-be64 .ensures)
+    (rcookie .put-be642 .ensures) (ah .put-be32 .ensures) (esp .put-be322 .ensures) (book .put-bytes2 .ensures) (nonce .put-bytes3 .ensures)))

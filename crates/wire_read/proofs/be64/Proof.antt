@@ -1,7 +1,7 @@
-use Rattle.quick_check.proofs.Ways.{eight-read, none-read}
 use borrow.Author.Needs.{needs}
-use Rattle.quick_check.proofs.be64.Statement.{statement}
-use Rattle.quick_check.proofs.be64.Tie as tie
+use Rattle.wire_read.proofs.Ways.{none-read, halves-read}
+use Rattle.wire_read.proofs.be64.Statement.{statement}
+use Rattle.wire_read.proofs.be64.Tie as tie
 
 pub be64-spec : {M : Type 1} → statement M
 be64-spec =
@@ -14,5 +14,5 @@ be64-spec =
     (λ c κs. search needs)
     (λ c. search needs)
     (λ c. search needs)
-    (λ c. search eight-read)
+    (λ c. search halves-read)
     (λ c. search none-read))

@@ -1,7 +1,7 @@
-use Rattle.quick_write.proofs.Ways.{eight-written}
 use borrow.Author.Needs.{needs}
-use Rattle.quick_write.proofs.put_be64.Statement.{statement}
-use Rattle.quick_write.proofs.put_be64.Tie as tie
+use Rattle.wire_write.proofs.Ways.{eight-written}
+use Rattle.wire_write.proofs.put_be64.Statement.{statement}
+use Rattle.wire_write.proofs.put_be64.Tie as tie
 
 pub put-be64-spec : {M : Type 1} → statement M
 put-be64-spec =
