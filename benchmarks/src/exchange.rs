@@ -1,6 +1,6 @@
 //! Times one whole exchange of quick mode, from two fresh ends to both open: the core, lent call by call, and the second program's own ends.
 
-use crate::raw;
+use crate::raw::{self, END};
 use crate::samples;
 use crate::timing;
 use second::quick::{End, Lent, Role, State, Step};
@@ -17,8 +17,7 @@ const AH: u32 = 0x1000_0001;
 const ESP: u32 = 0x1000_0002;
 const NONCES: [[u8; 16]; 2] = [[0xa5; 16], [0x5a; 16]];
 
-/// The size of an end, the least room of its buffers, and the number of the state Open (include/tallowbrim.h).
-const END: usize = 398;
+/// The least room of an end's buffers, and the number of the state Open (include/tallowbrim.h).
 const BUFFER: usize = 2_048;
 const OPEN: u64 = 3;
 

@@ -1,13 +1,10 @@
 //! Times one packet into a table of 64 lives, and one step of the record lent alone: the core, the peer in Rust and plain C.
 
-use crate::raw;
+use crate::raw::{self, RECEIVE, TABLE};
 use crate::streams::{self, Order, Packet};
 use crate::timing;
 use crate::window::{self, Life, Window, ACCEPTED, LIVES};
 use std::hint::black_box;
-
-/// How many words the core's table has (include/tallowbrim.h).
-const TABLE: usize = 384;
 
 type Step<Record> = unsafe extern "C" fn(&mut Record, u32, bool) -> u32;
 
@@ -34,7 +31,7 @@ type Ratios = [f64; 2];
 pub fn record() -> Ratios {
     greatest(ORDERS.map(|(order_name, order)| {
         let stream = &streams::packets(order, 1);
-        let core = black_box(raw::tallowbrim_step as Step<[u64; 2]>);
+        let core = black_box(raw::tallowbrim_step as Step<[u64; RECEIVE]>);
         let [rust, c] = black_box([window::step as Step<Window>, plain_c_step]);
         let accepted = alike(
             order_name,

@@ -164,12 +164,12 @@ pub struct Lent<'a> {
 
 /// One end of quick mode without its buffers. What [`End`] says of a call holds here too.
 #[derive(Clone, Debug, PartialEq, Eq)]
-pub struct EndRecord([u8; 398]);
+pub struct EndRecord([u8; raw::END]);
 
 impl EndRecord {
     /// An end that starts anew; both kept buffers begin as zeros, or as anything.
     pub fn fresh(own: &Own) -> Result<EndRecord, Refusal> {
-        let mut record = EndRecord([0; 398]);
+        let mut record = EndRecord([0; raw::END]);
         done(unsafe {
             raw::tallowbrim_fresh(
                 &mut record.0,

@@ -4,6 +4,11 @@
 //! Each call of this crate hands over slices that live while it runs, and none but the one that writes to them has those that it
 //! writes to. The header asks for no more, and that is why each `unsafe` block around a call is sound.
 
+/// The sizes of the records: words of a receive record and of a table, bytes of an end.
+pub const RECEIVE: usize = 2;
+pub const TABLE: usize = 384;
+pub const END: usize = 398;
+
 extern "C" {
     pub fn tallowbrim_datagram(datagram: *const u8, length: usize, out: &mut [u64; 3]) -> u32;
     pub fn tallowbrim_message(message: *const u8, length: usize, out: &mut [u64; 2]) -> u32;
@@ -52,7 +57,7 @@ extern "C" {
     ) -> u32;
 
     pub fn tallowbrim_fresh(
-        end: &mut [u8; 398],
+        end: &mut [u8; END],
         initiator: bool,
         initiator_cookie: u64,
         responder_cookie: u64,
@@ -64,7 +69,7 @@ extern "C" {
         nonce_length: usize,
     ) -> u32;
     pub fn tallowbrim_begin(
-        end: &mut [u8; 398],
+        end: &mut [u8; END],
         id: u32,
         first: *const u8,
         first_length: usize,
@@ -79,7 +84,7 @@ extern "C" {
         out: &mut [u64; 2],
     ) -> u32;
     pub fn tallowbrim_deliver(
-        end: &mut [u8; 398],
+        end: &mut [u8; END],
         hash_holds: bool,
         message: *const u8,
         message_length: usize,
@@ -92,7 +97,7 @@ extern "C" {
         out: &mut [u64; 2],
     ) -> u32;
     pub fn tallowbrim_tick(
-        end: &mut [u8; 398],
+        end: &mut [u8; END],
         sent: *const u8,
         sent_length: usize,
         got: *const u8,
@@ -101,8 +106,8 @@ extern "C" {
         output_length: usize,
         out: &mut [u64; 2],
     ) -> u32;
-    pub fn tallowbrim_state(end: &[u8; 398], out: &mut [u64; 4]) -> u32;
-    pub fn tallowbrim_agreed(end: &[u8; 398], out: &mut [u64; 10]) -> u32;
+    pub fn tallowbrim_state(end: &[u8; END], out: &mut [u64; 4]) -> u32;
+    pub fn tallowbrim_agreed(end: &[u8; END], out: &mut [u64; 10]) -> u32;
     pub fn tallowbrim_nonce(
         initiator: bool,
         initiators: *const u8,
@@ -113,28 +118,33 @@ extern "C" {
         out: &mut [u64; 1],
     ) -> u32;
 
-    pub fn tallowbrim_step(receive: &mut [u64; 2], number: u32, integrity: bool) -> u32;
-    pub fn tallowbrim_loss_line(receive: &[u64; 2], out: &mut [u64; 3]) -> u32;
-    pub fn tallowbrim_add(table: &mut [u64; 384], destination: u32, protocol: u8, spi: u32) -> u32;
-    pub fn tallowbrim_remove(table: &mut [u64; 384], destination: u32, protocol: u8, spi: u32) -> u32;
+    pub fn tallowbrim_step(receive: &mut [u64; RECEIVE], number: u32, integrity: bool) -> u32;
+    pub fn tallowbrim_loss_line(receive: &[u64; RECEIVE], out: &mut [u64; 3]) -> u32;
+    pub fn tallowbrim_add(table: &mut [u64; TABLE], destination: u32, protocol: u8, spi: u32) -> u32;
+    pub fn tallowbrim_remove(table: &mut [u64; TABLE], destination: u32, protocol: u8, spi: u32) -> u32;
     pub fn tallowbrim_packet(
-        table: &mut [u64; 384],
+        table: &mut [u64; TABLE],
         destination: u32,
         protocol: u8,
         integrity: bool,
         packet: *const u8,
         length: usize,
     ) -> u32;
-    pub fn tallowbrim_send(table: &mut [u64; 384], destination: u32, protocol: u8, spi: u32, out: &mut [u64; 1])
-        -> u32;
-    pub fn tallowbrim_loss(table: &[u64; 384], destination: u32, protocol: u8, spi: u32, out: &mut [u64; 3]) -> u32;
+    pub fn tallowbrim_send(
+        table: &mut [u64; TABLE],
+        destination: u32,
+        protocol: u8,
+        spi: u32,
+        out: &mut [u64; 1],
+    ) -> u32;
+    pub fn tallowbrim_loss(table: &[u64; TABLE], destination: u32, protocol: u8, spi: u32, out: &mut [u64; 3]) -> u32;
 
     pub fn tallowbrim_file_header(header: *const u8, length: usize, out: &mut [u64; 1]) -> u32;
     pub fn tallowbrim_header_cause(header: *const u8, length: usize, out: &mut [u64; 3]) -> u32;
     pub fn tallowbrim_record_header(order: u64, header: *const u8, length: usize, out: &mut [u64; 5]) -> u32;
     pub fn tallowbrim_carried(original: u32, record: *const u8, length: usize, out: &mut [u64; 5]) -> u32;
     pub fn tallowbrim_record(
-        table: &mut [u64; 384],
+        table: &mut [u64; TABLE],
         original: u32,
         record: *const u8,
         length: usize,

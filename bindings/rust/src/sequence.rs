@@ -23,7 +23,7 @@ impl LossLine {
 
 /// What arrived of one life of an SA.
 #[derive(Clone, Debug, Default, PartialEq, Eq)]
-pub struct Receive([u64; 2]);
+pub struct Receive([u64; raw::RECEIVE]);
 
 impl Receive {
     /// A life that begins.
@@ -57,11 +57,11 @@ pub struct Key {
 
 /// 64 SA entries.
 #[derive(Clone, Debug, PartialEq, Eq)]
-pub struct Table(pub(crate) [u64; 384]);
+pub struct Table(pub(crate) [u64; raw::TABLE]);
 
 impl Default for Table {
     fn default() -> Table {
-        Table([0; 384])
+        Table([0; raw::TABLE])
     }
 }
 
