@@ -11,7 +11,7 @@
  * - What a call writes to overlaps nothing else that it is lent.
  * - The records below are lent as plain words or bytes, and any contents at all get an answer. What stands in them is theirs.
  *
- * Every call is proved to answer, and to leave each lent word and byte, as its definition says: docs/CONTRACTS.md, "exports".
+ * Every call is proved to answer, and to leave each lent word and byte, as its definition says: docs/CONTRACTS.md, exports_reading and on.
  */
 #ifndef TALLOWBRIM_H
 #define TALLOWBRIM_H
@@ -128,7 +128,7 @@ uint32_t tallowbrim_cause(
 /*
  * What stands at places of the offer, counted as in tallowbrim_cause.
  * out: 1 there is no such place; 2 and the set's number, the proposal's protocol, the transform's number.
- * Answers 0, or as tallowbrim_message does.
+ * Answers 0, or as tallowbrim_message does, and 16 where the message has no offer.
  */
 uint32_t tallowbrim_place(
     const uint8_t *message, size_t length,
