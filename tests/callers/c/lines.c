@@ -1,5 +1,6 @@
 /* Answers the lines of ./bench (README.md, "Lines") through the library, from standard input to standard output.
-   lines verdict BOOK MESSAGE: prints what ./verdict prints of these two files, the book in bytes. */
+   lines verdict BOOK MESSAGE: prints what ./verdict prints of these two files, the book in bytes.
+   lines capture FILE: prints what ./capture prints of this one. */
 #include <inttypes.h>
 #include <stdio.h>
 #include <string.h>
@@ -405,21 +406,27 @@ static void put_listed(uint32_t original, const uint64_t out[8])
     }
 }
 
-static bool frame(void)
+/* What is listed of the record in `first`. */
+static void put_frame(uint32_t original)
 {
-    uint32_t original;
     uint64_t out[8];
-    if (!read_number(words[1], UINT32_MAX, &original) || !read_bytes(words[2], &first))
-        return false;
     tallowbrim_record(&table, original, first.at, first.length, out);
     if (out[0] <= 2) {
         put(out[0] == 1 ? "cut short" : "not IPv4");
-        return true;
+        return;
     }
     put_address(out[1]);
     put(" > ");
     put_address(out[2]);
     put_listed(original, out);
+}
+
+static bool frame(void)
+{
+    uint32_t original;
+    if (!read_number(words[1], UINT32_MAX, &original) || !read_bytes(words[2], &first))
+        return false;
+    put_frame(original);
     return true;
 }
 
@@ -701,6 +708,37 @@ static void verdict(void)
     put_choice();
 }
 
+/* What ./capture prints of the file in `second`. */
+static void capture(void)
+{
+    uint64_t order[1], header[5];
+    size_t at = 24;
+    uint32_t refusal = tallowbrim_file_header(second.at, second.length, order);
+    for (unsigned number = 1; refusal == 0 && at < second.length; number++) {
+        refusal = tallowbrim_record_header(order[0], second.at + at, second.length - at, header);
+        if (refusal != 0)
+            break;
+        printf("%u at %zu", number, at);
+        if (header[0] == 1)
+            printf(" %" PRIu64 ".%06" PRIu64, header[1], header[2]);
+        at += 16;
+        if (header[0] == 2 || second.length - at < header[3]) {
+            put(" cut short\n");
+            return;
+        }
+        first.length = header[3];
+        memcpy(first.at, second.at + at, first.length);
+        putchar(' ');
+        put_frame(header[4]);
+        putchar('\n');
+        at += first.length;
+    }
+    if (refusal != 0) {
+        put_number("refused", refusal);
+        putchar('\n');
+    }
+}
+
 int main(int count, char **arguments)
 {
     if (count == 4 && strcmp(arguments[1], "verdict") == 0) {
@@ -709,10 +747,16 @@ int main(int count, char **arguments)
             return 1;
         }
         verdict();
+    } else if (count == 3 && strcmp(arguments[1], "capture") == 0) {
+        if (!read_file(arguments[2], &second)) {
+            fprintf(stderr, "lines: cannot read %s\n", arguments[2]);
+            return 1;
+        }
+        capture();
     } else if (count == 1) {
         answer_all();
     } else {
-        fputs("usage: lines [verdict BOOK MESSAGE]\n", stderr);
+        fputs("usage: lines [verdict BOOK MESSAGE | capture FILE]\n", stderr);
         return 2;
     }
     return fflush(stdout) == 0 && !ferror(stdin) ? 0 : 1;

@@ -1,6 +1,7 @@
 // Answers the lines of ./bench (README.md, "Lines") over bindings/jvm. With `verdict BOOK MESSAGE` it prints what ./verdict prints of these
-// two files, the book in bytes.
+// two files, the book in bytes, and with `capture FILE` what ./capture prints of this one.
 import java.io.*;
+import java.nio.ByteOrder;
 import java.nio.charset.StandardCharsets;
 import java.nio.file.*;
 import java.util.*;
@@ -30,6 +31,8 @@ public final class Lines {
         OutputStream out = new BufferedOutputStream(new FileOutputStream(FileDescriptor.out), 1 << 16);
         if (words.length == 3 && words[0].equals("verdict")) {
             say(out, verdict(Files.readAllBytes(Path.of(words[1])), Files.readAllBytes(Path.of(words[2]))));
+        } else if (words.length == 2 && words[0].equals("capture")) {
+            say(out, new Lines().capture(Files.readAllBytes(Path.of(words[1]))));
         } else {
             new Lines().answerAll(out);
         }
@@ -457,6 +460,40 @@ public final class Lines {
 
         String kept() {
             return end.isEmpty() ? "none" : "kept " + word(lentSent) + " " + word(lentGot);
+        }
+    }
+
+    // ---- capture
+
+    private String capture(byte[] file) {
+        StringJoiner lines = new StringJoiner("\n", "", "\n").setEmptyValue("");
+        try {
+            list(file, lines);
+        } catch (Refusal refusal) {
+            lines.add("refused " + refusal.number());
+        }
+        return lines.toString();
+    }
+
+    private void list(byte[] file, StringJoiner lines) throws Refusal {
+        ByteOrder order = Tallowbrim.fileHeader(file);
+        int at = 24;
+        for (int number = 1; at < file.length; number++) {
+            Optional<RecordHeader> header = Tallowbrim.recordHeader(order, Arrays.copyOfRange(file, at, file.length));
+            String line = number + " at " + at;
+            if (header.isEmpty()) {
+                lines.add(line + " cut short");
+                return;
+            }
+            RecordHeader record = header.get();
+            line += " %d.%06d ".formatted(record.seconds(), record.microseconds());
+            at += 16;
+            if (file.length - at < record.length()) {
+                lines.add(line + "cut short");
+                return;
+            }
+            lines.add(line + frame(record.original(), Arrays.copyOfRange(file, at, at + record.length())));
+            at += record.length();
         }
     }
 

@@ -1,7 +1,45 @@
-//! The line `frame`: what `./capture` prints of a record behind its stamp.
+//! The line `frame`: what `./capture` prints of a record behind its stamp; and what it prints of a whole file.
 
 use crate::{accepted, places, said};
-use tallowbrim::{Addresses, Carried, Datagram, Listed, Table};
+use tallowbrim::{Addresses, Carried, Datagram, Listed, Refusal, Table};
+
+const FILE_HEADER: usize = 24;
+const RECORD_HEADER: usize = 16;
+
+pub fn capture(file: &[u8]) -> String {
+    let mut listing = String::new();
+    if let Err(refusal) = list(file, &mut listing) {
+        listing += &format!("refused {}\n", refusal.number());
+    }
+    listing
+}
+
+fn list(file: &[u8], listing: &mut String) -> Result<(), Refusal> {
+    let order = tallowbrim::file_header(file)?;
+    let mut table = Table::new();
+    let mut at = FILE_HEADER;
+    for number in 1.. {
+        if at >= file.len() {
+            break;
+        }
+        let header = tallowbrim::record_header(order, &file[at..])?;
+        *listing += &format!("{number} at {at}");
+        let Some(header) = header else {
+            *listing += " cut short\n";
+            break;
+        };
+        *listing += &format!(" {}.{:06} ", header.seconds, header.microseconds);
+        at += RECORD_HEADER;
+        let Some(record) = file.get(at..at + usize::from(header.captured)) else {
+            *listing += "cut short\n";
+            break;
+        };
+        *listing += &frame(&mut table, header.original, record);
+        *listing += "\n";
+        at += record.len();
+    }
+    Ok(())
+}
 
 pub fn frame(table: &mut Table, original: u32, record: &[u8]) -> String {
     match tallowbrim::record(table, original, record) {

@@ -1,5 +1,5 @@
 //! Answers the lines of `bench` from Rust, over bindings/rust alone. `lines verdict BOOK MESSAGE` prints what `./verdict` prints of
-//! these two files, the book being in bytes.
+//! these two files, the book being in bytes, and `lines capture FILE` what `./capture` prints of this one.
 
 mod ends;
 mod listing;
@@ -18,8 +18,9 @@ fn main() {
     let outcome = match arguments.iter().map(String::as_str).collect::<Vec<_>>()[..] {
         [] => answer_all(io::stdin().lock(), BufWriter::new(io::stdout().lock())),
         ["verdict", book, message] => verdict(book, message),
+        ["capture", file] => capture(file),
         _ => {
-            eprintln!("usage: lines [verdict BOOK MESSAGE]");
+            eprintln!("usage: lines [verdict BOOK MESSAGE | capture FILE]");
             std::process::exit(2)
         }
     };
@@ -32,6 +33,10 @@ fn main() {
 fn verdict(book: &str, message: &str) -> io::Result<()> {
     let said = policy::verdict(&fs::read(book)?, &fs::read(message)?);
     io::stdout().write_all(said.as_bytes())
+}
+
+fn capture(file: &str) -> io::Result<()> {
+    io::stdout().write_all(listing::capture(&fs::read(file)?).as_bytes())
 }
 
 fn answer_all(mut input: impl BufRead, mut output: impl Write) -> io::Result<()> {
