@@ -1,13 +1,13 @@
 -- A law for each way out of the functions that read and write an end's bytes.
 use Prim.Native.Nat.{ℕ, _+_, _/_, _%_}
-use mathlib.Core.Path.{_≡_, refl, ap, _∙_}
+use mathlib.Core.Path.{_≡_, refl, sym, ap, _∙_}
 use mathlib.Core.List.{List, [], _∷_, _++_}
 use native.Mathlib.Omega.{arith}
 use lib.ListN.{length, getD, drop, replicate, length-append}
 use borrow.Author.Tests.{eq-eqb, ne-eqb}
 use Rattle.wire_read.specs.Wire.{numberAt}
 use Rattle.wire_write.specs.Put.{bytesOf, paste}
-use Rattle.wire_write.proofs.Laws.{two-bytes, four-bytes, paste-append}
+use Rattle.wire_write.proofs.Laws.{four-bytes, paste-append}
 use Rattle.policy_choice.specs.declared.Transforms.{Transforms}
 use Rattle.policy_choice.specs.declared.Transforms.the-variants.{One, Two}
 use Rattle.sa_fields.specs.declared.TransformNumber.{TransformNumber}
@@ -143,18 +143,36 @@ unfolding spisValues
 count-small (Alone first) = refl
 count-small (Both first second) = refl
 
-abbrev fourBytes : ℕ → List ℕ → List ℕ
-fourBytes x rest = x / 16777216 % 256 ∷ x / 65536 % 256 ∷ x / 256 % 256 ∷ x % 256 ∷ rest
-
-pub spis-written : (spis : Spis) (values l b : List ℕ) (at : ℕ) → values ≡ spisValues spis →
-    b ≡ paste l at (getD values 0 0 % 256 ∷ fourBytes (getD values 1 0) (fourBytes (getD values 2 0) [])) → b ≡ paste l at (spisBytes spis)
-unfolding spisBytes
-spis-written spis values l b at ev e =
-    rw (four-bytes (getD (spisValues spis) 1 0), four-bytes (getD (spisValues spis) 2 0), ← count-small spis, ← ev) e
-
 -- a run written behind another that has n bytes
 behind : (l b c : List ℕ) (i n : ℕ) (xs ys : List ℕ) → length xs ≡ n → b ≡ paste l i xs → c ≡ paste b (i + n) ys → c ≡ paste l i (xs ++ ys)
 behind l b c i n xs ys en eb ec = rw (ec, eb, ← en) (paste-append l i xs ys)
+
+low-bytes : (x : ℕ) → bytesOf 4 (x % 4294967296) ≡ bytesOf 4 x
+low-bytes x =
+    let first : x % 4294967296 / 16777216 % 256 ≡ x / 16777216 % 256 = omega arith in
+    let second : x % 4294967296 / 65536 % 256 ≡ x / 65536 % 256 = omega arith in
+    let third : x % 4294967296 / 256 % 256 ≡ x / 256 % 256 = omega arith in
+    let fourth : x % 4294967296 % 256 ≡ x % 256 = omega arith in
+    four-bytes (x % 4294967296) ∙ rw (first, second, third, fourth) (sym (four-bytes x))
+
+module _ (spis : Spis) where
+  abbrev upToSecond : List ℕ
+  upToSecond = getD (spisValues spis) 0 0 ∷ bytesOf 4 (getD (spisValues spis) 1 0)
+
+  five-bytes : length upToSecond ≡ 5
+  unfolding bytesOf
+  five-bytes = refl
+
+  pub spis-written : (values l b1 b2 b3 : List ℕ) (at : ℕ) → values ≡ spisValues spis → b1 ≡ paste l at (getD values 0 0 % 256 ∷ []) →
+      b2 ≡ paste b1 (at + 1) (bytesOf 4 (getD values 1 0 % 4294967296)) → b3 ≡ paste b2 (at + 5) (bytesOf 4 (getD values 2 0 % 4294967296)) →
+      b3 ≡ paste l at (spisBytes spis)
+  unfolding spisBytes
+  spis-written values l b1 b2 b3 at ev e1 e2 e3 =
+      let count : b1 ≡ paste l at (getD (spisValues spis) 0 0 ∷ []) = rw (← count-small spis, ← ev) e1 in
+      let one : b2 ≡ paste b1 (at + 1) (bytesOf 4 (getD (spisValues spis) 1 0)) = rw (← low-bytes (getD (spisValues spis) 1 0), ← ev) e2 in
+      let two : b3 ≡ paste b2 (at + 5) (bytesOf 4 (getD (spisValues spis) 2 0)) = rw (← low-bytes (getD (spisValues spis) 2 0), ← ev) e3 in
+      let first = behind l b1 b2 at 1 (getD (spisValues spis) 0 0 ∷ []) (bytesOf 4 (getD (spisValues spis) 1 0)) refl count one in
+      behind l b2 b3 at 5 upToSecond (bytesOf 4 (getD (spisValues spis) 2 0)) five-bytes first two
 
 module _ (agreed : Agreed) where
   abbrev upToSpis : List ℕ
@@ -182,9 +200,19 @@ module _ (agreed : Agreed) where
       behind l b2 b3 10 13 (upToSpis ++ spisBytes (agreed .initiator)) (spisBytes (agreed .responder)) thirteen second e3
 
 module _ (progress : Progress) where
+  abbrev upToSizes : List ℕ
+  upToSizes = stateNumber (progress .state) ∷ progress .sends ∷ bytesOf 4 (progress .id)
+
   abbrev upToAgreed : List ℕ
-  upToAgreed =
-      stateNumber (progress .state) ∷ progress .sends ∷ bytesOf 4 (progress .id) ++ bytesOf 2 (progress .sentsize) ++ bytesOf 2 (progress .gotsize)
+  upToAgreed = upToSizes ++ bytesOf 2 (progress .sentsize) ++ bytesOf 2 (progress .gotsize)
+
+  six-bytes : length upToSizes ≡ 6
+  unfolding bytesOf
+  six-bytes = refl
+
+  eight-bytes : length (upToSizes ++ bytesOf 2 (progress .sentsize)) ≡ 8
+  unfolding bytesOf
+  eight-bytes = refl
 
   ten-bytes : length upToAgreed ≡ 10
   unfolding bytesOf
@@ -194,15 +222,16 @@ module _ (progress : Progress) where
   unfolding progressBytes
   length-progress = length-append upToAgreed (agreedBytes (progress .agreed)) ∙ omega (arith, ten-bytes, length-agreed (progress .agreed))
 
-  pub progress-written : (l b1 b2 : List ℕ) (number : ℕ) → number ≡ stateNumber (progress .state) →
-      b1 ≡ paste l 0 (number ∷ progress .sends
-      ∷ fourBytes (progress .id) (progress .sentsize / 256 % 256 ∷ progress .sentsize % 256 ∷ progress .gotsize / 256 % 256 ∷ progress .gotsize % 256 ∷ [])) →
-      b2 ≡ paste b1 10 (agreedBytes (progress .agreed)) → b2 ≡ paste l 0 (progressBytes progress)
+  pub progress-written : (l b1 b2 b3 b4 b5 : List ℕ) (number : ℕ) → number ≡ stateNumber (progress .state) →
+      b1 ≡ paste l 0 (number ∷ progress .sends ∷ []) → b2 ≡ paste b1 2 (bytesOf 4 (progress .id)) → b3 ≡ paste b2 6 (bytesOf 2 (progress .sentsize)) →
+      b4 ≡ paste b3 8 (bytesOf 2 (progress .gotsize)) → b5 ≡ paste b4 10 (agreedBytes (progress .agreed)) → b5 ≡ paste l 0 (progressBytes progress)
   unfolding progressBytes
-  progress-written l b1 b2 number en e1 e2 =
-      let first : b1 ≡ paste l 0 upToAgreed =
-      rw (four-bytes (progress .id), two-bytes (progress .sentsize), two-bytes (progress .gotsize), ← en) e1 in
-      behind l b1 b2 0 10 upToAgreed (agreedBytes (progress .agreed)) ten-bytes first e2
+  progress-written l b1 b2 b3 b4 b5 number en e1 e2 e3 e4 e5 =
+      let first : b1 ≡ paste l 0 (stateNumber (progress .state) ∷ progress .sends ∷ []) = rw (← en) e1 in
+      let second = behind l b1 b2 0 2 (stateNumber (progress .state) ∷ progress .sends ∷ []) (bytesOf 4 (progress .id)) refl first e2 in
+      let third = behind l b2 b3 0 6 upToSizes (bytesOf 2 (progress .sentsize)) six-bytes second e3 in
+      let fourth = behind l b3 b4 0 8 (upToSizes ++ bytesOf 2 (progress .sentsize)) (bytesOf 2 (progress .gotsize)) eight-bytes third e4 in
+      behind l b4 b5 0 10 upToAgreed (agreedBytes (progress .agreed)) ten-bytes fourth e5
 
 module _ (own : Own) where
   abbrev upToCookies : List ℕ
@@ -239,19 +268,20 @@ module _ (own : Own) where
   length-own book nonce =
       length-append (upToBook ++ own .book) (own .nonce) ∙ omega (arith, length-append upToBook (own .book), twenty-eight)
 
-  pub own-written : (l b1 b2 b3 b4 b5 b6 b7 : List ℕ) (number : ℕ) → number ≡ roleNumber (own .role) → length (own .book) ≡ 82 →
-      b1 ≡ paste l 32 (number ∷ own .booksize ∷ own .noncesize / 256 % 256 ∷ own .noncesize % 256 ∷ []) → b2 ≡ paste b1 36 (bytesOf 8 (own .icookie)) →
-      b3 ≡ paste b2 44 (bytesOf 8 (own .rcookie)) → b4 ≡ paste b3 52 (bytesOf 4 (own .ah)) → b5 ≡ paste b4 56 (bytesOf 4 (own .esp)) →
-      b6 ≡ paste b5 60 (own .book) → b7 ≡ paste b6 142 (own .nonce) → b7 ≡ paste l 32 (ownBytes own)
+  pub own-written : (l b1 b2 b3 b4 b5 b6 b7 b8 : List ℕ) (number : ℕ) → number ≡ roleNumber (own .role) → length (own .book) ≡ 82 →
+      b1 ≡ paste l 32 (number ∷ own .booksize ∷ []) → b2 ≡ paste b1 34 (bytesOf 2 (own .noncesize)) → b3 ≡ paste b2 36 (bytesOf 8 (own .icookie)) →
+      b4 ≡ paste b3 44 (bytesOf 8 (own .rcookie)) → b5 ≡ paste b4 52 (bytesOf 4 (own .ah)) → b6 ≡ paste b5 56 (bytesOf 4 (own .esp)) →
+      b7 ≡ paste b6 60 (own .book) → b8 ≡ paste b7 142 (own .nonce) → b8 ≡ paste l 32 (ownBytes own)
   unfolding ownBytes
-  own-written l b1 b2 b3 b4 b5 b6 b7 number en long e1 e2 e3 e4 e5 e6 e7 =
-      let first : b1 ≡ paste l 32 upToCookies = rw (two-bytes (own .noncesize), ← en) e1 in
-      let second = behind l b1 b2 32 4 upToCookies (bytesOf 8 (own .icookie)) four first e2 in
-      let third = behind l b2 b3 32 12 (upToCookies ++ bytesOf 8 (own .icookie)) (bytesOf 8 (own .rcookie)) twelve second e3 in
-      let fourth = behind l b3 b4 32 20 upToAh (bytesOf 4 (own .ah)) twenty third e4 in
-      let fifth = behind l b4 b5 32 24 (upToAh ++ bytesOf 4 (own .ah)) (bytesOf 4 (own .esp)) twenty-four fourth e5 in
-      let sixth = behind l b5 b6 32 28 upToBook (own .book) twenty-eight fifth e6 in
-      behind l b6 b7 32 110 (upToBook ++ own .book) (own .nonce) (length-append upToBook (own .book) ∙ omega (arith, twenty-eight)) sixth e7
+  own-written l b1 b2 b3 b4 b5 b6 b7 b8 number en long e1 e2 e3 e4 e5 e6 e7 e8 =
+      let first : b1 ≡ paste l 32 (roleNumber (own .role) ∷ own .booksize ∷ []) = rw (← en) e1 in
+      let second = behind l b1 b2 32 2 (roleNumber (own .role) ∷ own .booksize ∷ []) (bytesOf 2 (own .noncesize)) refl first e2 in
+      let third = behind l b2 b3 32 4 upToCookies (bytesOf 8 (own .icookie)) four second e3 in
+      let fourth = behind l b3 b4 32 12 (upToCookies ++ bytesOf 8 (own .icookie)) (bytesOf 8 (own .rcookie)) twelve third e4 in
+      let fifth = behind l b4 b5 32 20 upToAh (bytesOf 4 (own .ah)) twenty fourth e5 in
+      let sixth = behind l b5 b6 32 24 (upToAh ++ bytesOf 4 (own .ah)) (bytesOf 4 (own .esp)) twenty-four fifth e6 in
+      let seventh = behind l b6 b7 32 28 upToBook (own .book) twenty-eight sixth e7 in
+      behind l b7 b8 32 110 (upToBook ++ own .book) (own .nonce) (length-append upToBook (own .book) ∙ omega (arith, twenty-eight)) seventh e8
 
 pub end-written : (end : End) (l b1 b2 : List ℕ) → b1 ≡ paste l 0 (progressBytes (end .progress)) → b2 ≡ paste b1 32 (ownBytes (end .own)) →
     b2 ≡ paste l 0 (endBytes end)

@@ -15,8 +15,10 @@ use wire_read::be16;
 use wire_read::be32;
 use wire_read::be64;
 use wire_read::byte;
+use wire_write::put_be16;
 use wire_write::put_be32;
 use wire_write::put_be64;
+use wire_write::put_byte;
 use wire_write::put_bytes;
 ghost use mathlib.Core.Path.{_≡_};
 ghost use Rattle.wire_write.specs.Put.{paste};
@@ -89,27 +91,15 @@ pub fn spis_values(spis: Spis) -> [u64; 3]
     }
 }
 
-fn put_spis(s: &mut [u8], at: usize, spis: Spis)
+// Writes the values of SPIs in one byte, four and four. A place of one byte keeps the sums from overflowing.
+fn put_spis(s: &mut [u8], at: u8, spis: Spis)
     ensures { λ _. ⌜ now (s .exit) ≡ paste (now (s .entry)) at (spisBytes spis) ⌝ }
 {
     let values = spis_values(spis);
-    let first = values[1];
-    let second = values[2];
-    put_bytes(
-        s,
-        at,
-        &[
-            (values[0] % 256) as u8,
-            (first / 16777216 % 256) as u8,
-            (first / 65536 % 256) as u8,
-            (first / 256 % 256) as u8,
-            (first % 256) as u8,
-            (second / 16777216 % 256) as u8,
-            (second / 65536 % 256) as u8,
-            (second / 256 % 256) as u8,
-            (second % 256) as u8,
-        ],
-    );
+    let place = at as usize;
+    put_byte(s, place, (values[0] % 256) as u8);
+    put_be32(s, place + 1, (values[1] % 4294967296) as u32);
+    put_be32(s, place + 5, (values[2] % 4294967296) as u32);
 }
 
 // Writes what is agreed behind the 10 bytes of a progress that are written.
@@ -132,25 +122,10 @@ pub fn put_progress(s: &mut [u8], progress: Progress)
 {
     let state = progress.state;
     let agreed = progress.agreed;
-    let id = progress.id;
-    let sentsize = progress.sentsize;
-    let gotsize = progress.gotsize;
-    put_bytes(
-        s,
-        0,
-        &[
-            state_number(state),
-            progress.sends,
-            (id / 16777216 % 256) as u8,
-            (id / 65536 % 256) as u8,
-            (id / 256 % 256) as u8,
-            (id % 256) as u8,
-            (sentsize / 256 % 256) as u8,
-            (sentsize % 256) as u8,
-            (gotsize / 256 % 256) as u8,
-            (gotsize % 256) as u8,
-        ],
-    );
+    put_bytes(s, 0, &[state_number(state), progress.sends]);
+    put_be32(s, 2, progress.id);
+    put_be16(s, 6, progress.sentsize);
+    put_be16(s, 8, progress.gotsize);
     put_agreed(s, agreed);
 }
 
@@ -159,17 +134,8 @@ fn put_own(s: &mut [u8], own: Own)
     ensures { λ _. ⌜ now (s .exit) ≡ paste (now (s .entry)) 32 (ownBytes own) ⌝ }
 {
     let role = own.role;
-    let size = own.noncesize;
-    put_bytes(
-        s,
-        32,
-        &[
-            role_number(role),
-            own.booksize,
-            (size / 256 % 256) as u8,
-            (size % 256) as u8,
-        ],
-    );
+    put_bytes(s, 32, &[role_number(role), own.booksize]);
+    put_be16(s, 34, own.noncesize);
     put_be64(s, 36, own.icookie);
     put_be64(s, 44, own.rcookie);
     put_be32(s, 52, own.ah);

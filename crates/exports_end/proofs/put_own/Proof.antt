@@ -9,8 +9,7 @@ put-own-spec =
     (tie.spec
     (λ c κs. search needs)
     (λ c. search needs)
-    (λ c. search needs)
-    (λ c. search needs)
+    (λ c κs. search needs)
     (λ c κs. search needs)
     (λ c κs. search needs)
     (λ c κs. search needs)
@@ -26,7 +25,8 @@ put-own-spec =
     let ah = esp .before .before .before .before in
     let rcookie = ah .before .before .before .before in
     let icookie = rcookie .before .before .before .before in
-    let first = icookie .before .before .before .before in
+    let size = icookie .before .before .before .before in
+    let first = size .before .before .before .before in
     let role = first .before .before in
-    own-written _ _ _ _ _ _ _ _ _ _ (role .role-number .ensures) (book .before .put-bytes-arg5 .given .0) (first .put-bytes .ensures) (icookie .put-be64 .ensures)
-    (rcookie .put-be642 .ensures) (ah .put-be32 .ensures) (esp .put-be322 .ensures) (book .put-bytes2 .ensures) (nonce .put-bytes3 .ensures)))
+    own-written _ _ _ _ _ _ _ _ _ _ _ (role .role-number .ensures) (book .before .put-bytes-arg5 .given .0) (first .put-bytes .ensures) (size .put-be16 .ensures)
+    (icookie .put-be64 .ensures) (rcookie .put-be642 .ensures) (ah .put-be32 .ensures) (esp .put-be322 .ensures) (book .put-bytes2 .ensures) (nonce .put-bytes3 .ensures)))
