@@ -3,6 +3,7 @@
 
 mod choosing;
 mod exchange;
+mod places;
 mod reading;
 mod replying;
 mod samples;

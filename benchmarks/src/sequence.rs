@@ -1,26 +1,23 @@
 //! Times one packet into a table of 64 lives, and one step of the record lent alone: the core, the peer in Rust and plain C.
 
-use crate::raw::{self, RECEIVE, TABLE};
+use crate::places::{self, ALL, CONTENDERS};
+use crate::raw::{self, TABLE};
 use crate::streams::{self, Order, Packet};
 use crate::timing;
-use crate::window::{self, Life, Window, ACCEPTED, LIVES};
+use crate::window::{Life, Window, ACCEPTED, LIVES};
 use std::hint::black_box;
 
+/// The core's record is two words, as a window is.
 type Step = unsafe extern "C" fn(&mut Window, u32, bool) -> u32;
 
 /// The table, destination, protocol, integrity, and a slice of bytes: where it begins, and its length.
-type PacketInto<Table> = unsafe extern "C" fn(&mut Table, u32, u8, bool, *const u8, usize) -> u32;
+type PacketInto = unsafe extern "C" fn(&mut Table, u32, u8, bool, *const u8, usize) -> u32;
 
-extern "C" {
-    fn plain_c_step(window: &mut Window, number: u32, integrity: bool) -> u32;
-    fn plain_c_packet(
-        lives: &mut [Life; LIVES],
-        destination: u32,
-        protocol: u8,
-        integrity: bool,
-        start: *const u8,
-        length: usize,
-    ) -> u32;
+/// The core's table or the peers', so that all contenders are called from one loop.
+#[derive(Clone, Copy)]
+union Table {
+    words: [u64; TABLE],
+    lives: [Life; LIVES],
 }
 
 const ORDERS: [(&str, Order); 2] = [("in order", Order::InOrder), ("mixed", Order::Mixed)];
@@ -29,61 +26,35 @@ const ORDERS: [(&str, Order); 2] = [("in order", Order::InOrder), ("mixed", Orde
 type Ratios = [f64; 2];
 
 pub fn record() -> Ratios {
+    // SAFETY: each takes a record, a number and whether its integrity holds.
+    let calls: [Step; ALL] = unsafe { places::calls(["tallowbrim_step", "plain_rust_step", "plain_c_step"]) };
     greatest(ORDERS.map(|(order_name, order)| {
         let stream = &streams::packets(order, 1);
-        let calls = black_box([core_step(), window::step, plain_c_step]);
-        let [core, rust, c] = calls;
-        let accepted = alike(order_name, calls.map(|call| steps(call, stream).collect()));
-        let times = timing::medians(
-            [&|| sum(steps(core, stream)), &|| sum(steps(rust, stream)), &|| sum(steps(c, stream))],
-            stream.len(),
-        );
-        told(&format!("step, {order_name} ({accepted})"), times)
+        compare(&format!("step, {order_name}"), calls.map(|call| move || steps(call, stream)))
     }))
 }
 
 pub fn table() -> Ratios {
+    // SAFETY: each takes a table of its own and what `PacketInto` says.
+    let calls: [PacketInto; ALL] =
+        unsafe { places::calls(["tallowbrim_packet", "plain_rust_packet", "plain_c_packet"]) };
+    let tables = [core_table(), peers_table(), peers_table()];
+    let contenders: [(PacketInto, Table); ALL] = std::array::from_fn(|i| (calls[i], tables[i % tables.len()]));
     greatest(ORDERS.map(|(order_name, order)| {
         let stream = &streams::packets(order, LIVES);
-        let core = black_box(raw::tallowbrim_packet as PacketInto<[u64; TABLE]>);
-        let [rust, c] = black_box([window::packet as PacketInto<[Life; LIVES]>, plain_c_packet]);
-        let (words, lives) = (words(), lives());
-        let accepted = alike(
-            order_name,
-            [
-                into(core, words, stream).collect(),
-                into(rust, lives, stream).collect(),
-                into(c, lives, stream).collect(),
-            ],
-        );
-        let times = timing::medians(
-            [&|| sum(into(core, words, stream)), &|| sum(into(rust, lives, stream)), &|| sum(into(c, lives, stream))],
-            stream.len(),
-        );
-        told(&format!("packet, {order_name} ({accepted})"), times)
+        compare(&format!("packet, {order_name}"), contenders.map(|(call, table)| move || into(call, table, stream)))
     }))
-}
-
-/// The core's step, over a record of the peers', so that all three are called from one loop.
-fn core_step() -> Step {
-    let step: unsafe extern "C" fn(&mut [u64; RECEIVE], u32, bool) -> u32 = raw::tallowbrim_step;
-    // SAFETY: a window is two words, as the core's record is, and the core takes any.
-    unsafe { std::mem::transmute(step) }
 }
 
 /// The verdicts of a record's steps, from its beginning.
 fn steps(call: Step, stream: &[Packet]) -> impl Iterator<Item = u32> + '_ {
     let mut record = Window::default();
-    // SAFETY: each of the three takes any record and any number.
+    // SAFETY: each contender takes any record and any number.
     stream.iter().map(move |packet| unsafe { call(&mut record, packet.number, packet.integrity) })
 }
 
 /// The verdicts of packets into a table.
-fn into<Table>(
-    call: PacketInto<Table>,
-    mut table: Table,
-    stream: &[Packet],
-) -> impl Iterator<Item = u32> + use<'_, Table> {
+fn into(call: PacketInto, mut table: Table, stream: &[Packet]) -> impl Iterator<Item = u32> + '_ {
     // SAFETY: the last two are those of a slice that outlives the call.
     stream.iter().map(move |packet| unsafe {
         call(
@@ -97,42 +68,56 @@ fn into<Table>(
     })
 }
 
-fn sum(verdicts: impl Iterator<Item = u32>) {
-    black_box(verdicts.fold(0, u32::wrapping_add));
-}
-
 /// The 64 lives in the core's table, each at its beginning.
-fn words() -> [u64; TABLE] {
-    let mut table = [0; TABLE];
+fn core_table() -> Table {
+    let mut words = [0; TABLE];
     for key in streams::keys() {
         // SAFETY: the core takes any table and any key.
-        let refusal = unsafe { raw::tallowbrim_add(&mut table, key.destination, key.protocol, key.spi) };
+        let refusal = unsafe { raw::tallowbrim_add(&mut words, key.destination, key.protocol, key.spi) };
         assert_eq!(refusal, 0, "a life of 64 that was not added");
     }
-    table
+    Table { words }
 }
 
 /// The same lives as the peers'.
-fn lives() -> [Life; LIVES] {
-    streams::keys().map(|key| Life {
+fn peers_table() -> Table {
+    let lives = streams::keys().map(|key| Life {
         spi: key.spi,
         destination: key.destination,
         protocol: key.protocol,
         used: true,
         window: Window::default(),
-    })
+    });
+    Table { lives }
 }
 
-/// How many packets of a stream are accepted, where the three answer it alike, verdict for verdict.
-fn alike(order_name: &str, verdicts: [Vec<u32>; 3]) -> String {
-    let [core, peers @ ..] = &verdicts;
-    assert!(peers.iter().all(|peer| peer == core), "{order_name}: the three answer unlike");
-    format!("{} of {} accepted", core.iter().filter(|&&verdict| verdict == ACCEPTED).count(), core.len())
+/// The core's time over its peers', each the mean over its places, once all contenders answer alike, verdict for verdict.
+fn compare<Verdicts: Iterator<Item = u32>>(what: &str, contenders: [impl Fn() -> Verdicts; ALL]) -> Ratios {
+    let verdicts: Vec<u32> = contenders[0]().collect();
+    assert!(
+        contenders.iter().all(|answer| answer().eq(verdicts.iter().copied())),
+        "{what}: the contenders answer unlike"
+    );
+    let rounds = contenders.map(|answer| {
+        move || {
+            black_box(answer().fold(0, u32::wrapping_add));
+        }
+    });
+    let times = timing::medians(rounds.each_ref().map(|round| round as &dyn Fn()), verdicts.len());
+    let accepted = verdicts.iter().filter(|&&verdict| verdict == ACCEPTED).count();
+    told(&format!("{what} ({accepted} of {} accepted)", verdicts.len()), times)
 }
 
-fn told(what: &str, [core, rust, c]: [f64; 3]) -> Ratios {
+fn told(what: &str, times: [f64; ALL]) -> Ratios {
+    println!("{what}: the mean, and the times at its places");
+    let [core, rust, c] = std::array::from_fn(|contender| {
+        let at_places: Vec<f64> = times.into_iter().skip(contender).step_by(CONTENDERS.len()).collect();
+        let mean = at_places.iter().sum::<f64>() / at_places.len() as f64;
+        println!("  {:<5}{mean:.2} {at_places:.2?}", CONTENDERS[contender]);
+        mean
+    });
     let ratios = [core / rust, core / c];
-    println!("{what}: core {core:.2}, rust {rust:.2}, c {c:.2}, ratio rust {:.2} c {:.2}", ratios[0], ratios[1]);
+    println!("  ratio rust {:.2} c {:.2}", ratios[0], ratios[1]);
     ratios
 }
 

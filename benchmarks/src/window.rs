@@ -1,5 +1,5 @@
 //! The peer in Rust: a 64-bit window, and 64 lives in an array, both brought up to date in place. The second program keeps plain sets,
-//! which would be no measure of speed.
+//! which would be no measure of speed. Its functions are called where build.rs has linked them, its records are the caller's too.
 
 pub const LIVES: usize = 64;
 const WINDOW: u64 = 64;
@@ -26,7 +26,8 @@ pub struct Life {
     pub window: Window,
 }
 
-pub extern "C" fn step(window: &mut Window, number: u32, integrity: bool) -> u32 {
+#[no_mangle]
+pub extern "C" fn plain_rust_step(window: &mut Window, number: u32, integrity: bool) -> u32 {
     let number = u64::from(number);
     if number == 0 || number + WINDOW <= window.highest {
         return 8197;
@@ -53,7 +54,8 @@ pub extern "C" fn step(window: &mut Window, number: u32, integrity: bool) -> u32
 
 /// # Safety
 /// The last two are where a packet begins and its length.
-pub unsafe extern "C" fn packet(
+#[no_mangle]
+pub unsafe extern "C" fn plain_rust_packet(
     lives: &mut [Life; LIVES],
     destination: u32,
     protocol: u8,
@@ -67,7 +69,7 @@ pub unsafe extern "C" fn packet(
         Ok((spi, number)) => lives
             .iter_mut()
             .find(|life| life.spi == spi && life.destination == destination && life.protocol == protocol && life.used)
-            .map_or(11, |life| step(&mut life.window, number, integrity)),
+            .map_or(11, |life| plain_rust_step(&mut life.window, number, integrity)),
     }
 }
 
