@@ -1,11 +1,13 @@
-//! The must-fail edits, and their column in docs/CONTRACTS.md. An edit's first line is `# NAME, ..: what it gets wrong`, each NAME that of
-//! a row below the heading of its crate; the row's last cell is made of the edits that name it.
+//! The must-fail edits, and their column in docs/CONTRACTS.md. An edit has one part or several with an empty line between them. The first line
+//! of a part is `# NAME, ..: what it gets wrong`, each NAME that of a row below the heading of its crate; the row's last cell is made of the
+//! parts that name it.
 
 use std::fs;
-use std::path::Path;
+use std::path::{Path, PathBuf};
 
 use crate::sources::below;
 
+/// A part of an edit.
 pub struct Edit {
     pub krate: String,
     pub label: String,
@@ -14,16 +16,22 @@ pub struct Edit {
     pub wrong: String,
 }
 
-/// The edits of every crate, in the order of their names.
+/// The edits of every crate, part by part, in the order of their names.
 pub fn edits(crates: &Path) -> Vec<Edit> {
-    let read = |path: &Path| {
+    let read = |path: &PathBuf| {
         let krate = path.strip_prefix(crates).ok()?.components().next()?.as_os_str().to_string_lossy().into_owned();
         let label = path.file_stem()?.to_string_lossy().into_owned();
-        let text = fs::read_to_string(path).unwrap_or_default();
-        let (names, wrong) = first_line(&text);
-        Some(Edit { krate, label, names, wrong })
+        Some(parts(&krate, &label, &fs::read_to_string(path).unwrap_or_default()))
     };
-    below(crates, "edit").iter().filter_map(|path| read(path)).collect()
+    below(crates, "edit").iter().filter_map(read).flatten().collect()
+}
+
+fn parts(krate: &str, label: &str, text: &str) -> Vec<Edit> {
+    let part = |part: &str| {
+        let (names, wrong) = first_line(part);
+        Edit { krate: krate.into(), label: label.into(), names, wrong }
+    };
+    text.split("\n\n").map(part).collect()
 }
 
 fn first_line(text: &str) -> (Vec<String>, String) {
@@ -84,21 +92,22 @@ fn with_last_cell(row: &str, cell: &str) -> String {
 mod tests {
     use super::*;
 
-    fn edit(label: &str, text: &str) -> Edit {
-        let (names, wrong) = first_line(text);
-        Edit { krate: "wire_read".into(), label: label.into(), names, wrong }
+    fn edit(label: &str, text: &str) -> Vec<Edit> {
+        parts("wire_read", label, text)
     }
 
     #[test]
-    fn a_first_line_names_rows_and_says_what_is_wrong() {
-        let edit = edit("ends", "# front, after: one byte: the last\n# more\nfile: src/lib.rt\n");
-        assert_eq!(edit.names, ["front", "after"]);
-        assert_eq!(edit.wrong, "one byte: the last");
+    fn the_first_line_of_a_part_names_rows_and_says_what_is_wrong() {
+        let edit = edit("ends", "# front, after: one byte: the last\n# more\nfile: src/lib.rt\n\n# byte: another\n");
+        assert_eq!(edit[0].names, ["front", "after"]);
+        assert_eq!(edit[0].wrong, "one byte: the last");
+        assert_eq!(edit[1].names, ["byte"]);
+        assert_eq!(edit.len(), 2);
     }
 
     #[test]
     fn a_first_line_without_a_name_names_no_row() {
-        assert!(edit("byte", "# one byte late\n").names.is_empty());
+        assert!(edit("byte", "# one byte late\n")[0].names.is_empty());
     }
 
     #[test]
@@ -108,7 +117,10 @@ mod tests {
                 format!("## wire_read\n\n| `byte(s, at)` | the byte | {of_byte} |\n| `front(s, n)` | so many | |\n");
             format!("{of_wire}\n## der\n\n| `byte(s)` | x | own |\n")
         };
-        let edits = [edit("byte", "# byte: 1 past the end"), edit("late", "# byte: one byte late")];
+        let edits: Vec<Edit> = [edit("byte", "# byte: 1 past the end"), edit("late", "# byte: one byte late")]
+            .into_iter()
+            .flatten()
+            .collect();
         let made = page("`byte`: 1 past the end; `late`: one byte late");
         assert_eq!(written(&page("old"), &edits), made);
         assert_eq!(written(&made, &edits), made);

@@ -144,7 +144,9 @@ fn edits_named(root: &Path, tally: &mut Tally) {
     let rows = edits::rows(&text(&root.join(CONTRACTS)));
     for edit in edits::edits(&root.join("crates")) {
         let label = format!("crates/{}/must-fail/{}.edit", edit.krate, edit.label);
-        tally.fact(!edit.names.is_empty(), || format!("{label} does not begin with `# NAME: what it gets wrong`"));
+        tally.fact(!edit.names.is_empty(), || {
+            format!("a part of {label} does not begin with `# NAME: what it gets wrong`")
+        });
         for name in edit.names {
             tally.fact(rows.contains(&(edit.krate.clone(), name.clone())), || {
                 format!("{label} names {name}, for which {CONTRACTS} has no row under {}", edit.krate)
