@@ -14,6 +14,7 @@ type Step = unsafe extern "C" fn(&mut Window, u32, bool) -> u32;
 type PacketInto = unsafe extern "C" fn(&mut Table, u32, u8, bool, *const u8, usize) -> u32;
 
 /// The core's table or the peers', so that all contenders are called from one loop.
+#[repr(C)]
 #[derive(Clone, Copy)]
 union Table {
     words: [u64; TABLE],
