@@ -1,6 +1,6 @@
 /* Answers the lines of ./bench (README.md, "Lines") through the library, from standard input to standard output.
    lines verdict BOOK MESSAGE: prints what ./verdict prints of these two files, the book in bytes.
-   lines capture FILE: prints what ./capture prints of this one. */
+   lines capture FILE..: prints of each file its name and what its header is, and then what ./capture prints of it. */
 #include <inttypes.h>
 #include <stdio.h>
 #include <string.h>
@@ -708,10 +708,21 @@ static void verdict(void)
     put_choice();
 }
 
+/* What the header of the file in `second` is. */
+static void put_header_cause(void)
+{
+    static const char *const causes[] = {
+        "", "nothing wrong", "too short", "pcapng", "nanoseconds", "version", "check sequences", "link type", "no capture"};
+    uint64_t out[3];
+    tallowbrim_header_cause(second.at, second.length, out);
+    put_answer(0, causes[out[0]], out + 1, out[0] == 5 ? 2 : out[0] == 7 ? 1 : 0);
+}
+
 /* What ./capture prints of the file in `second`. */
 static void capture(void)
 {
     uint64_t order[1], header[5];
+    memset(&table, 0, sizeof table);
     size_t at = 24;
     uint32_t refusal = tallowbrim_file_header(second.at, second.length, order);
     for (unsigned number = 1; refusal == 0 && at < second.length; number++) {
@@ -747,16 +758,21 @@ int main(int count, char **arguments)
             return 1;
         }
         verdict();
-    } else if (count == 3 && strcmp(arguments[1], "capture") == 0) {
-        if (!read_file(arguments[2], &second)) {
-            fprintf(stderr, "lines: cannot read %s\n", arguments[2]);
-            return 1;
+    } else if (count >= 3 && strcmp(arguments[1], "capture") == 0) {
+        for (int i = 2; i < count; i++) {
+            if (!read_file(arguments[i], &second)) {
+                fprintf(stderr, "lines: cannot read %s\n", arguments[i]);
+                return 1;
+            }
+            printf("%s: ", arguments[i]);
+            put_header_cause();
+            putchar('\n');
+            capture();
         }
-        capture();
     } else if (count == 1) {
         answer_all();
     } else {
-        fputs("usage: lines [verdict BOOK MESSAGE | capture FILE]\n", stderr);
+        fputs("usage: lines [verdict BOOK MESSAGE | capture FILE..]\n", stderr);
         return 2;
     }
     return fflush(stdout) == 0 && !ferror(stdin) ? 0 : 1;

@@ -1,5 +1,6 @@
 // Answers the lines of ./bench (README.md, "Lines") over bindings/jvm. With `verdict BOOK MESSAGE` it prints what ./verdict prints of these
-// two files, the book in bytes, and with `capture FILE` what ./capture prints of this one.
+// two files, the book in bytes, and with `capture FILE..` of each file its name and what its header is, and then what ./capture prints
+// of it.
 import java.io.*;
 import java.nio.ByteOrder;
 import java.nio.charset.StandardCharsets;
@@ -31,8 +32,11 @@ public final class Lines {
         OutputStream out = new BufferedOutputStream(new FileOutputStream(FileDescriptor.out), 1 << 16);
         if (words.length == 3 && words[0].equals("verdict")) {
             say(out, verdict(Files.readAllBytes(Path.of(words[1])), Files.readAllBytes(Path.of(words[2]))));
-        } else if (words.length == 2 && words[0].equals("capture")) {
-            say(out, new Lines().capture(Files.readAllBytes(Path.of(words[1]))));
+        } else if (words.length > 1 && words[0].equals("capture")) {
+            for (int i = 1; i < words.length; i++) {
+                byte[] file = Files.readAllBytes(Path.of(words[i]));
+                say(out, words[i] + ": " + cause(Tallowbrim.headerCause(file)) + "\n" + new Lines().capture(file));
+            }
         } else {
             new Lines().answerAll(out);
         }
@@ -464,6 +468,23 @@ public final class Lines {
     }
 
     // ---- capture
+
+    private static String cause(HeaderCause cause) {
+        if (cause instanceof HeaderCause.NothingWrong) {
+            return "nothing wrong";
+        } else if (cause instanceof HeaderCause.TooShort) {
+            return "too short";
+        } else if (cause instanceof HeaderCause.Pcapng) {
+            return "pcapng";
+        } else if (cause instanceof HeaderCause.Nanoseconds) {
+            return "nanoseconds";
+        } else if (cause instanceof HeaderCause.OtherVersion other) {
+            return "version " + other.major() + " " + other.minor();
+        } else if (cause instanceof HeaderCause.CheckSequences) {
+            return "check sequences";
+        }
+        return cause instanceof HeaderCause.OtherLinkType other ? "link type " + other.number() : "no capture";
+    }
 
     private String capture(byte[] file) {
         StringJoiner lines = new StringJoiner("\n", "", "\n").setEmptyValue("");

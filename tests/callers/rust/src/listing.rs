@@ -1,10 +1,24 @@
 //! The line `frame`: what `./capture` prints of a record behind its stamp; and what it prints of a whole file.
 
 use crate::{accepted, places, said};
-use tallowbrim::{Addresses, Carried, Datagram, Listed, Refusal, Table};
+use tallowbrim::{Addresses, Carried, Datagram, HeaderCause, Listed, Refusal, Table};
 
 const FILE_HEADER: usize = 24;
 const RECORD_HEADER: usize = 16;
+
+/// What a file's header is.
+pub fn cause(file: &[u8]) -> String {
+    match tallowbrim::header_cause(file) {
+        HeaderCause::Nothing => "nothing wrong".to_string(),
+        HeaderCause::Short => "too short".to_string(),
+        HeaderCause::Pcapng => "pcapng".to_string(),
+        HeaderCause::Nanoseconds => "nanoseconds".to_string(),
+        HeaderCause::Version { major, minor } => format!("version {major} {minor}"),
+        HeaderCause::CheckSequences => "check sequences".to_string(),
+        HeaderCause::LinkType(number) => format!("link type {number}"),
+        HeaderCause::NoCapture => "no capture".to_string(),
+    }
+}
 
 pub fn capture(file: &[u8]) -> String {
     let mut listing = String::new();

@@ -1,5 +1,6 @@
 //! Answers the lines of `bench` from Rust, over bindings/rust alone. `lines verdict BOOK MESSAGE` prints what `./verdict` prints of
-//! these two files, the book being in bytes, and `lines capture FILE` what `./capture` prints of this one.
+//! these two files, the book being in bytes, and `lines capture FILE..` of each file its name and what its header is, and then
+//! what `./capture` prints of it.
 
 mod ends;
 mod listing;
@@ -18,9 +19,9 @@ fn main() {
     let outcome = match arguments.iter().map(String::as_str).collect::<Vec<_>>()[..] {
         [] => answer_all(io::stdin().lock(), BufWriter::new(io::stdout().lock())),
         ["verdict", book, message] => verdict(book, message),
-        ["capture", file] => capture(file),
+        ["capture", ref files @ ..] if !files.is_empty() => files.iter().try_for_each(|file| capture(file)),
         _ => {
-            eprintln!("usage: lines [verdict BOOK MESSAGE | capture FILE]");
+            eprintln!("usage: lines [verdict BOOK MESSAGE | capture FILE..]");
             std::process::exit(2)
         }
     };
@@ -35,8 +36,10 @@ fn verdict(book: &str, message: &str) -> io::Result<()> {
     io::stdout().write_all(said.as_bytes())
 }
 
-fn capture(file: &str) -> io::Result<()> {
-    io::stdout().write_all(listing::capture(&fs::read(file)?).as_bytes())
+fn capture(name: &str) -> io::Result<()> {
+    let file = fs::read(name)?;
+    let said = format!("{name}: {}\n{}", listing::cause(&file), listing::capture(&file));
+    io::stdout().write_all(said.as_bytes())
 }
 
 fn answer_all(mut input: impl BufRead, mut output: impl Write) -> io::Result<()> {
