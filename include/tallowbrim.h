@@ -264,8 +264,8 @@ uint32_t tallowbrim_file_header(const uint8_t *header, size_t length, uint64_t o
 
 /*
  * What a file is whose header is refused.
- * out: 1 nothing is wrong; 2 too short; 3 pcapng; 4 nanosecond stamps; 5 another version: major, minor; 6 frames with check sequences;
- * 7 another link type: its number; 8 no capture.
+ * out: 1 nothing is wrong; or the first that holds: 2 too short; 3 pcapng; 4 nanosecond stamps; 5 another version: major, minor;
+ * 6 frames with check sequences; 7 another link type: its number, the low 16 bits of the word; 8 no capture.
  * Answers 0.
  */
 uint32_t tallowbrim_header_cause(const uint8_t *header, size_t length, uint64_t out[3]);

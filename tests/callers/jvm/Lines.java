@@ -37,8 +37,11 @@ public final class Lines {
                 byte[] file = Files.readAllBytes(Path.of(words[i]));
                 say(out, words[i] + ": " + cause(Tallowbrim.headerCause(file)) + "\n" + new Lines().capture(file));
             }
-        } else {
+        } else if (words.length == 0) {
             new Lines().answerAll(out);
+        } else {
+            System.err.println("usage: lines [verdict BOOK MESSAGE | capture FILE..]");
+            System.exit(2);
         }
         out.flush();
     }
