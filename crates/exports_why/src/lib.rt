@@ -1,11 +1,12 @@
 // What other languages call to say why nothing was chosen: the cause at places, and what stands there.
-use message_chain::Message;
 use policy_cause::Cause;
 use policy_choice::choose::sa_of;
+use policy_why::Offer;
 use policy_why::Places;
 use policy_why::Why;
 use policy_why::cause_at;
 use policy_why::is_place;
+use policy_why::message_offer;
 use sa_fields::proposal_number;
 use sa_fields::protocol;
 use sa_fields::transform_number;
@@ -110,21 +111,17 @@ pub extern "C" fn tallowbrim_place(
 ) -> u32
     ensures { λ r. ⌜ given 4 (placeAnswer (now (m .entry)) (record { set = set; line = 0; proposal = proposal; transform = transform })) (now (out .entry)) ≡ (r, now (out .exit)) ⌝ }
 {
-    let answer = message_chain::read(m);
-    match answer {
-        Message::Refused(number) => number as u32,
-        Message::Read { exchange: _, count } => {
-            let body = sa_of(count, m);
-            if body.len() == 0 {
-                return 16;
-            }
+    let offer = message_offer(m);
+    match offer {
+        Offer::Refused(number) => number as u32,
+        Offer::Readable { exchange: _, count } => {
             let at = Places {
                 set,
                 line: 0,
                 proposal,
                 transform,
             };
-            *out = place_words(body, at);
+            *out = place_words(sa_of(count, m), at);
             0
         }
     }

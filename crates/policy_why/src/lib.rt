@@ -41,7 +41,8 @@ pub enum Why {
     Transform(Cause),
 }
 
-fn message_offer(m: &[u8]) -> Offer
+// Whether a message is readable and has an SA payload.
+pub fn message_offer(m: &[u8]) -> Offer
     ensures { λ r. ⌜ r ≡ messageOffer (now (m .entry)) (message (now (m .entry))) ⌝ }
 {
     let read = message_chain::read(m);

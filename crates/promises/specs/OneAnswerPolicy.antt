@@ -53,6 +53,8 @@ use Rattle.policy_choice.proofs.choose.sa_of.Kinds as sa-of-kinds
 use Rattle.policy_choice.proofs.choose.sa_of.Reads as sa-of-reads
 use Rattle.policy_choice.proofs.choose.choose.Kinds as choose-kinds
 use Rattle.policy_choice.proofs.choose.choose.Reads as choose-reads
+use Rattle.policy_why.proofs.message_offer.Kinds as message-offer-kinds
+use Rattle.policy_why.proofs.message_offer.Reads as message-offer-reads
 use Rattle.policy_why.proofs.offered.Kinds as offered-kinds
 use Rattle.policy_why.proofs.offered.Reads as offered-reads
 use Rattle.policy_why.proofs.is_place.Kinds as is-place-kinds
@@ -143,6 +145,9 @@ policy-choice-sa-of κs arguments x y s t p q = p ∙ sym q
 
 pub policy-choice-choose : OneAnswer 2 choose-kinds.ps choose-kinds.r result choose-reads.Post
 policy-choice-choose κs arguments x y s t p q = p ∙ sym q
+
+pub policy-why-message-offer : OneAnswer 1 message-offer-kinds.ps message-offer-kinds.r result message-offer-reads.Post
+policy-why-message-offer κs arguments x y s t p q = p ∙ sym q
 
 pub policy-why-offered : OneAnswer 2 offered-kinds.ps offered-kinds.r result offered-reads.Post
 policy-why-offered κs arguments x y s t p q = p ∙ sym q

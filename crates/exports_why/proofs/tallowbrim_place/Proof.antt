@@ -1,17 +1,15 @@
--- The message is read as `message` says; its SA payload has the place or has it not.
+-- The offer is read as `messageOffer` says; it has the place or has it not.
 use Prim.Native.Nat.{ℕ}
 use mathlib.Core.Path.{_≡_, refl}
 use mathlib.Core.List.{List, [], _∷_}
 use mathlib.Core.Bool.{Bool, true, false, not}
-use lib.ListN.{length}
 use borrow.Author.Needs.{needs}
-use borrow.Author.Tests.{eq-eqb, ne-eqb}
 use Rattle.wire_read.specs.Tests.{if_then_else_}
 use Rattle.message_chain.specs.Message.{message}
-use Rattle.message_chain.specs.declared.Message.{Message}
-use Rattle.message_chain.specs.declared.Message.the-variants.{Refused, Read}
 use Rattle.policy_choice.specs.Choice.{saFrom}
 use Rattle.policy_why.specs.Why.{messageOffer, isPlace}
+use Rattle.policy_why.specs.declared.Offer.{Offer}
+use Rattle.policy_why.specs.declared.Offer.the-variants.{Refused, Readable}
 use Rattle.policy_why.specs.declared.Places.{Places}
 use Rattle.exports_words.specs.Given.{given, left, words}
 use Rattle.exports_why.specs.Places.{foundValues, placeValues, offerPlace, placeAnswer}
@@ -29,19 +27,15 @@ place-left : (body : List ℕ) (at : Places) (out : List ℕ) → left 4 (placeV
 unfolding placeValues foundValues
 place-left body at out = some-left (not (isPlace body at)) _ out
 
-module _ (m : List ℕ) (at : Places) (answer : Message) (same : answer ≡ message m) (out : List ℕ) where
-  given-refused : (number : ℕ) → answer ≡ Refused number → given 4 (placeAnswer m at) out ≡ (number, out)
-  unfolding given left placeAnswer offerPlace messageOffer
+module _ (m : List ℕ) (at : Places) (offer : Offer) (same : offer ≡ messageOffer m (message m)) (out : List ℕ) where
+  given-refused : (number : ℕ) → offer ≡ Refused number → given 4 (placeAnswer m at) out ≡ (number, out)
+  unfolding given left placeAnswer offerPlace
   given-refused number is = rw (← same, is)
 
-  module _ (exchange count : ℕ) (is : answer ≡ Read exchange count) (body : List ℕ) (eb : body ≡ saFrom count 0 m) where
-    given-no-offer : length body ≡ 0 → given 4 (placeAnswer m at) out ≡ (16, out)
-    unfolding given left placeAnswer offerPlace messageOffer
-    given-no-offer h = rw (← same, is, ← eb, eq-eqb (length body) 0 h)
-
-    given-place : (length body ≡ 0 → ⊥) → (r : List ℕ) → r ≡ words 4 (placeValues body at) → given 4 (placeAnswer m at) out ≡ (0, r)
-    unfolding given placeAnswer offerPlace messageOffer
-    given-place h r er = rw (← same, is, ← eb, ne-eqb (length body) 0 h, ← eb, place-left, ← er)
+  given-place : (exchange count : ℕ) → offer ≡ Readable exchange count → (body r : List ℕ) → body ≡ saFrom count 0 m →
+      r ≡ words 4 (placeValues body at) → given 4 (placeAnswer m at) out ≡ (0, r)
+  unfolding given placeAnswer offerPlace
+  given-place exchange count is body r eb er = rw (← same, is, ← eb, place-left, ← er)
 
 pub tallowbrim-place-spec : {M : Type 1} → statement M
 tallowbrim-place-spec =
@@ -52,7 +46,6 @@ tallowbrim-place-spec =
     (λ c. search needs)
     (λ c. search needs)
     (λ c κs. search needs)
-    (λ c. search given-no-offer)
     (λ c κs. search needs)
     (λ c. search given-refused)
     (λ c. search given-place))
