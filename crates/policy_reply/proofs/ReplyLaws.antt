@@ -38,7 +38,8 @@ use Rattle.policy_choice.specs.declared.Transforms.the-variants.{One, Two}
 use Rattle.policy_choice.specs.Choice.{numberOf, transformsOf, saFrom, choice}
 use Rattle.policy_suiting.proofs.Laws.{Passes, Passed}
 use Rattle.policy_suits.specs.Suits.{lowest}
-use Rattle.policy_suiting.proofs.SuitLaws.{Known, isakmp, ah-of, esp-of, known-of, known-quick, suiting-short, chosenIn, taken, Pair, shape}
+use Rattle.sa_proposals.proofs.Known.{Known, isakmp, ah-of, esp-of, known-of}
+use Rattle.policy_suiting.proofs.SuitLaws.{known-quick, suiting-short, chosenIn, taken, Pair, shape}
 use Rattle.policy_choice.proofs.ChoiceLaws.{Chose, taken-by-number}
 
 -- ---- a transform, repeated

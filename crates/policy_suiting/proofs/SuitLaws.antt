@@ -7,12 +7,12 @@ use mathlib.Core.Bool.{Bool, true, false, _||_, _&&_}
 use native.Mathlib.Omega.{arith}
 use lib.ListN.{length, getD}
 use lib.Dec.{eqb}
-use borrow.Author.Tests.{eqb-true, leb-true, not-false}
+use borrow.Author.Tests.{eqb-true, leb-true}
 use Rattle.wire_read.specs.Tests.{if_then_else_}
 use Rattle.wire_read.proofs.Tests.{both, by-test}
-use Rattle.sa_proposals.specs.Proposals.{protocolWrong}
 use Rattle.sa_transforms.proofs.Laws.{LawfulTransform}
 use Rattle.sa_proposals.proofs.Laws.{Item}
+use Rattle.sa_proposals.proofs.Known.{Known, isakmp, ah-of, esp-of, known-of}
 use Rattle.sa_fields.specs.Fields.{protocol, transformCount}
 use Rattle.sa_items.specs.Items.{proposal, proposalCount, transform}
 use Rattle.sa_items.proofs.Laws.{transform-lawful}
@@ -20,22 +20,6 @@ use Rattle.policy_lines.specs.Lines.{quickProtocols}
 use Rattle.policy_suits.specs.Suits.{suitsLine, transformSuits, lowest, protocolsAlone, protocolsBoth, protocolsSuit}
 use Rattle.policy_suiting.proofs.Laws.{First, none, here, lowest-is, Passes, transform-low}
 use Rattle.policy_suiting.proofs.TransformLaws.{main-short, quick-short}
-
--- the exchanges and their protocols
-pub data Known : ℕ → ℕ → Type 0 where
-  isakmp : Known 2 1
-  ah-of : Known 32 2
-  esp-of : Known 32 3
-
-pub known-of : (exchange wanted : ℕ) → protocolWrong exchange wanted ≡ false → Known exchange wanted
-unfolding protocolWrong
-known-of exchange wanted h =
-    by-test (eqb exchange 2 && eqb wanted 1)
-    (λ e. let two = both (eqb exchange 2) (eqb wanted 1) e in rw (eqb-true exchange 2 (two .0), eqb-true wanted 1 (two .1)) isakmp)
-    (λ e.
-    let right : (eqb exchange 32 && (eqb wanted 2 || eqb wanted 3)) ≡ true = not-false _ (rw e at h) in
-    let two = both (eqb exchange 32) (eqb wanted 2 || eqb wanted 3) right in
-    rw (eqb-true exchange 32 (two .0)) (by-test (eqb wanted 2) (λ f. rw (eqb-true wanted 2 f) ah-of) (λ f. rw (eqb-true wanted 3 (rw f at two .1)) esp-of)))
 
 suits-short : {exchange wanted : ℕ} → Known exchange wanted → (i : ℕ) (book p : List ℕ) (k : ℕ) → LawfulTransform exchange (transform k p) →
     transformSuits exchange i book p k ≡ true → length (transform k p) ≤ 56

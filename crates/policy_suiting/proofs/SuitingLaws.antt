@@ -20,7 +20,7 @@ use Rattle.policy_suiting.specs.Suiting.{protocolList, in-front, behind,
 use Rattle.policy_suiting.proofs.Laws.{First, none, here, lowest-is, Passes, transform-low, suits-passed, passed-suits}
 use Rattle.policy_suiting.proofs.Exactly.{listed-count, listed-at, exactly-length}
 use Rattle.policy_suiting.proofs.TransformLaws.{main-says, says-main, quick-says, says-quick}
-use Rattle.policy_suiting.proofs.SuitLaws.{Known, isakmp, ah-of, esp-of, known-of}
+use Rattle.sa_proposals.proofs.Known.{Known, isakmp, ah-of, esp-of, known-of}
 
 -- ---- transforms
 

@@ -20,7 +20,7 @@ use Rattle.policy_suiting.proofs.Exactly.{Within, within-more, none-within, wit
 use Rattle.policy_suiting.proofs.AttributeList.{life-is, Sought}
 use Rattle.policy_suiting.proofs.Offers.{found-offered, offered-found, Plain, single-in, lifetime-in, value-says, seconds-say, kilobytes-long}
 use Rattle.policy_suiting.proofs.TransformLaws.{main-says, quick-says}
-use Rattle.policy_suiting.proofs.SuitLaws.{Known, isakmp, ah-of, esp-of}
+use Rattle.sa_proposals.proofs.Known.{Known, isakmp, ah-of, esp-of}
 use Rattle.policy_cause.specs.declared.Wish.{Wish}
 use Rattle.policy_cause.specs.declared.Cause.{Cause}
 use Rattle.policy_cause.specs.declared.Cause.the-variants.{Suits, Id, Missing, Value, Surplus, Seconds, Kilobytes}

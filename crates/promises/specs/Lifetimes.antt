@@ -25,7 +25,7 @@ use Rattle.sa_items.proofs.Laws.{transform-lawful}
 use Rattle.sa_sets.specs.Sets.{set, setCount}
 use Rattle.sa_sets.proofs.Places.{set-lawful}
 use Rattle.policy_suiting.specs.Suiting.{Exactly, TransformSuits}
-use Rattle.policy_suiting.proofs.SuitLaws.{Known, isakmp, ah-of, esp-of, known-of}
+use Rattle.sa_proposals.proofs.Known.{Known, isakmp, ah-of, esp-of, known-of}
 use Rattle.policy_order.proofs.FreeOrder as order
 
 -- what begins at attribute j of a transform's attributes s, counted from 0, and its type

@@ -36,7 +36,8 @@ use Rattle.policy_choice.specs.declared.Transforms.{Transforms}
 use Rattle.policy_choice.specs.declared.Transforms.the-variants.{One, Two}
 use Rattle.policy_choice.specs.declared.Choice.the-variants.{Chosen}
 use Rattle.policy_reply.specs.declared.Outcome.{Outcome}
-use Rattle.policy_suiting.proofs.SuitLaws.{Known, isakmp, ah-of, esp-of, known-of, chosenIn, taken, shape}
+use Rattle.sa_proposals.proofs.Known.{Known, isakmp, ah-of, esp-of, known-of}
+use Rattle.policy_suiting.proofs.SuitLaws.{chosenIn, taken, shape}
 use Rattle.policy_choice.proofs.ChoiceLaws.{Chose, chose-says, sa-in-front}
 use Rattle.policy_reply.proofs.ReplyLaws.{Repeats, choice-repeats, choice-short, choice-written, sa-lies, sa-long, sa-begins}
 use Rattle.promises.specs.Payloads as payloads

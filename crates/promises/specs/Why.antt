@@ -31,7 +31,7 @@ use Rattle.policy_book.specs.declared.Book.{Book}
 use Rattle.policy_book.specs.declared.Book.the-variants as books
 use Rattle.policy_suits.specs.Suits.{protocolsSuit, setSuits}
 use Rattle.policy_suiting.specs.Suiting.{protocolList, Exactly, lineProtocols, Suits}
-use Rattle.policy_suiting.proofs.SuitLaws.{known-of}
+use Rattle.sa_proposals.proofs.Known.{known-of}
 use Rattle.policy_suiting.proofs.SuitingLaws.{suits-says, says-suits, say-protocols}
 use Rattle.policy_cause.specs.Causes.{transformCause, pairCause}
 use Rattle.policy_cause.specs.declared.Cause.{Cause}

@@ -35,7 +35,8 @@ use Rattle.policy_choice.specs.declared.Choice.the-variants.{Chosen}
 use Rattle.policy_suiting.proofs.Laws.{Passed, suits-passed}
 use Rattle.policy_choice.proofs.Laws.{Choosing, fourteen, chose, choosing}
 use Rattle.policy_choice.proofs.ChoiceLaws.{taken-by-number}
-use Rattle.policy_suiting.proofs.SuitLaws.{Known, isakmp, ah-of, esp-of, known-of, chosenIn, taken}
+use Rattle.sa_proposals.proofs.Known.{Known, isakmp, ah-of, esp-of, known-of}
+use Rattle.policy_suiting.proofs.SuitLaws.{chosenIn, taken}
 use Rattle.policy_reply.proofs.ReplyLaws.{Repeats, reply-repeats, reply-short}
 use Rattle.quick_write.specs.Messages.{bookOf, offerOf, proposalsOf, longer, messageOne, messageTwo, lines}
 use Rattle.quick_shape.specs.Shapes.{alike, shapeOf}
@@ -124,7 +125,7 @@ module _ (ah esp : ℕ) (high-ah : 256 ≤ ah) (high-esp : 256 ≤ esp) where
       (λ a. by-test (eqb wanted 3) (λ b. rw (a, b, le-ltb ah 256 high-ah, le-ltb esp 256 high-esp)) (λ b. rw (a, b, le-ltb ah 256 high-ah)))
       (λ a. by-test (eqb wanted 3) (λ b. rw (a, b, le-ltb esp 256 high-esp)) (λ b. rw (a, b)))
 
-  spis-high : (t : Transforms) (s : List ℕ) → spisLow ah esp t s ≡ false
+  pub spis-high : (t : Transforms) (s : List ℕ) → spisLow ah esp t s ≡ false
   unfolding spisLow
   spis-high (One t) s = spi-high (protocol (proposal 0 s))
   spis-high (Two t u) s = rw (spi-high (protocol (proposal 0 s)), spi-high (protocol (proposal 1 s)))

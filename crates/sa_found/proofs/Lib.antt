@@ -1,0 +1,3 @@
+mod Numbered
+mod Apart
+pub mod FoundLaws
