@@ -1,7 +1,7 @@
-mod MessageShapes
-mod MessageLaws
+pub mod MessageShapes
+pub mod MessageLaws
 mod OfferLaws
-mod TakenLaws
+pub mod TakenLaws
 pub mod Fresh
 pub mod Moves
 pub mod Safety

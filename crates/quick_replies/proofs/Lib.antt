@@ -1,0 +1,3 @@
+mod OneLaws
+mod TwoLaws
+pub mod ReplyLaws
