@@ -23,6 +23,10 @@ pub mod WhyAnswers
 pub mod WhyExamples
 pub mod PolicySuits
 pub mod Reply
+pub mod Lawful
+pub mod OwnReplies
+pub mod LawfulAnswers
+pub mod LawfulExamples
 pub mod SequenceAnswers
 pub mod Sequence
 pub mod Captures

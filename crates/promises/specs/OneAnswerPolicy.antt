@@ -61,6 +61,10 @@ use Rattle.policy_why.proofs.is_place.Kinds as is-place-kinds
 use Rattle.policy_why.proofs.is_place.Reads as is-place-reads
 use Rattle.policy_why.proofs.cause_at.Kinds as cause-at-kinds
 use Rattle.policy_why.proofs.cause_at.Reads as cause-at-reads
+use Rattle.policy_lawful.proofs.first_difference.Kinds as first-difference-kinds
+use Rattle.policy_lawful.proofs.first_difference.Reads as first-difference-reads
+use Rattle.policy_lawful.proofs.reply_lawful.Kinds as reply-lawful-kinds
+use Rattle.policy_lawful.proofs.reply_lawful.Reads as reply-lawful-reads
 use Rattle.policy_reply.proofs.put_proposal.Kinds as put-proposal-kinds
 use Rattle.policy_reply.proofs.put_proposal.Reads as put-proposal-reads
 use Rattle.policy_reply.proofs.put_reply.Kinds as put-reply-kinds
@@ -157,6 +161,12 @@ policy-why-is-place κs arguments x y s t p q = p ∙ sym q
 
 pub policy-why-cause-at : OneAnswer 2 cause-at-kinds.ps cause-at-kinds.r result cause-at-reads.Post
 policy-why-cause-at κs arguments x y s t p q = p ∙ sym q
+
+pub policy-lawful-first-difference : OneAnswer 3 first-difference-kinds.ps first-difference-kinds.r result first-difference-reads.Post
+policy-lawful-first-difference κs arguments x y s t p q = p ∙ sym q
+
+pub policy-lawful-reply-lawful : OneAnswer 3 reply-lawful-kinds.ps reply-lawful-kinds.r result reply-lawful-reads.Post
+policy-lawful-reply-lawful κs arguments x y s t p q = p ∙ sym q
 
 pub policy-reply-put-proposal : OneAnswer 2 put-proposal-kinds.ps put-proposal-kinds.r resultAndBuffer put-proposal-reads.Post
 policy-reply-put-proposal κs arguments x y s t p q = sym p ∙ q

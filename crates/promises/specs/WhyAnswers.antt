@@ -19,10 +19,10 @@ use Rattle.policy_why.specs.Why.{offerAnswer, whyAnswer}
 
 -- The answer that a number and values stand for, of each type; it is the answer that they come from.
 
-abbrev value : (a : Answer) (place : ℕ) → ℕ
+abbrev pub value : (a : Answer) (place : ℕ) → ℕ
 value a place = getD (a .values) place 0
 
-abbrev isKind : (a : Answer) (place kind : ℕ) → Bool
+abbrev pub isKind : (a : Answer) (place kind : ℕ) → Bool
 isKind a place kind = eqb (value a place) kind
 
 -- the cause whose values begin at this place
