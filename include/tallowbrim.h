@@ -135,6 +135,45 @@ uint32_t tallowbrim_place(
     uint8_t set, uint8_t proposal, uint8_t transform,
     uint64_t out[4]);
 
+/*
+ * Whether a gateway's reply is lawful beside the offer that it answers: it repeats one offered set, with one offered transform in each
+ * proposal, unaltered and in the offer's order; with a book, it is also what that chooses of the offer. Offer and reply are messages, as
+ * tallowbrim_message reads them. The book is looked at only where booked says that there is one: an empty book is one too, and unlawful.
+ * Where there is none, lend any bytes or none; the pointer is not null even so.
+ * Answers 0, lawful; or as tallowbrim_message does of the offer, and 16 where it has no SA payload; 8193; the same of the reply; 15 where
+ * it does not repeat the offer so; 14 where the book chooses something else, or nothing.
+ */
+uint32_t tallowbrim_lawful(
+    const uint8_t *offer, size_t offer_length,
+    const uint8_t *reply, size_t reply_length,
+    bool booked, const uint8_t *book, size_t book_length);
+
+/*
+ * What differs first, of the same offer, reply and book.
+ * out: what it is, and then
+ *   1 nothing: the reply is lawful
+ *   2 the offer, 3 the book, 4 the reply cannot be read: the refusal
+ *   5 the reply has several sets: how many
+ *   6 its set's number is not offered: the number
+ *   7 its set has other protocols than the offered one
+ *   8 its set has them in another order
+ *   9 a proposal has several transforms: protocol, how many
+ *   10 a transform's number is not offered: protocol, the number
+ *   11 a transform has another ID: protocol, its number, found, offered
+ *   12 a transform has other attributes: protocol, its number
+ *   13 the book chooses another set: found, chosen
+ *   14 the book chooses another transform: protocol, found, chosen
+ *   15 the book chooses nothing
+ * A protocol is that of the proposal (2 AH, 3 ESP, 1 in main mode); sets and transforms are told by their numbers. tallowbrim_lawful
+ * answers 15 where this is one of 5 to 12, and 14 where it is one of 13 to 15.
+ * Answers 0, whatever it is.
+ */
+uint32_t tallowbrim_difference(
+    const uint8_t *offer, size_t offer_length,
+    const uint8_t *reply, size_t reply_length,
+    bool booked, const uint8_t *book, size_t book_length,
+    uint64_t out[5]);
+
 /* ---- Quick mode ------------------------------------------------------------------------------------------------------------- */
 
 /*

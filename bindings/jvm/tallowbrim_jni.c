@@ -134,6 +134,18 @@ NATIVE(place, jbyteArray message, jint set, jint proposal, jint transform, jlong
     return CALL(tallowbrim_place(BYTES(0), (uint8_t)set, (uint8_t)proposal, (uint8_t)transform, WHOLE(1)));
 }
 
+NATIVE(lawful, jbyteArray offer, jbyteArray reply, jboolean booked, jbyteArray book)
+{
+    LEND(READ(offer), READ(reply), READ(book));
+    return CALL(tallowbrim_lawful(BYTES(0), BYTES(1), booked, BYTES(2)));
+}
+
+NATIVE(difference, jbyteArray offer, jbyteArray reply, jboolean booked, jbyteArray book, jlongArray out)
+{
+    LEND(READ(offer), READ(reply), READ(book), CHANGED(out));
+    return CALL(tallowbrim_difference(BYTES(0), BYTES(1), booked, BYTES(2), WHOLE(3)));
+}
+
 /* ---- Quick mode ------------------------------------------------------------------------------------------------------------- */
 
 NATIVE(fresh, jbyteArray end, jboolean initiator, jlong initiator_cookie, jlong responder_cookie, jbyteArray book, jlong ah, jlong esp,

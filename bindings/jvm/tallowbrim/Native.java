@@ -22,6 +22,8 @@ final class Native {
     static native int reply(byte[] book, byte[] message, long ah, long esp, byte[] buffer, long[] out);
     static native int cause(byte[] book, byte[] message, int set, int line, int proposal, int transform, long[] out);
     static native int place(byte[] message, int set, int proposal, int transform, long[] out);
+    static native int lawful(byte[] offer, byte[] reply, boolean booked, byte[] book);
+    static native int difference(byte[] offer, byte[] reply, boolean booked, byte[] book, long[] out);
 
     // Quick mode
     static native int fresh(

@@ -11,6 +11,9 @@ import java.util.Optional;
 public final class Tallowbrim {
     private static final int LONGEST_NONCE = 256;
 
+    /** What is lent for a book where there is none; it is not looked at. */
+    private static final byte[] NO_BOOK = {};
+
     private Tallowbrim() {}
 
     /** What a datagram of port 4500 is. */
@@ -129,6 +132,55 @@ public final class Tallowbrim {
         long[] out = new long[4];
         Lent.done(Native.place(Lent.bytes(message), Lent.number8(set), Lent.number8(proposal), Lent.number8(transform), out));
         return out[0] == 1 ? Optional.empty() : Optional.of(new Place((int) out[1], (int) out[2], (int) out[3]));
+    }
+
+    /**
+     * Refuses a gateway's reply that is not lawful beside the offer that it answers: lawful is what repeats one offered set, with one
+     * offered transform in each proposal, unaltered and in the offer's order.
+     */
+    public static void lawful(byte[] offer, byte[] reply) throws Refusal {
+        Lent.done(Native.lawful(Lent.bytes(offer), Lent.bytes(reply), false, NO_BOOK));
+    }
+
+    /** The same with a book: lawful is then only what the book chooses of the offer. */
+    public static void lawful(byte[] offer, byte[] reply, byte[] book) throws Refusal {
+        Lent.done(Native.lawful(Lent.bytes(offer), Lent.bytes(reply), true, Lent.bytes(book)));
+    }
+
+    /** What differs first of a reply; it is lawful where nothing does. */
+    public static Difference difference(byte[] offer, byte[] reply) {
+        return difference(offer, reply, false, NO_BOOK);
+    }
+
+    /** The same with a book. */
+    public static Difference difference(byte[] offer, byte[] reply, byte[] book) {
+        return difference(offer, reply, true, book);
+    }
+
+    private static Difference difference(byte[] offer, byte[] reply, boolean booked, byte[] book) {
+        long[] out = new long[5];
+        Native.difference(Lent.bytes(offer), Lent.bytes(reply), booked, Lent.bytes(book), out);
+        int first = (int) out[1];
+        int second = (int) out[2];
+        int third = (int) out[3];
+        return switch ((int) out[0]) {
+            case 1 -> new Difference.Nothing();
+            case 2 -> new Difference.OfferRefused(first);
+            case 3 -> new Difference.BookRefused(first);
+            case 4 -> new Difference.ReplyRefused(first);
+            case 5 -> new Difference.SeveralSets(first);
+            case 6 -> new Difference.SetNotOffered(first);
+            case 7 -> new Difference.Protocols();
+            case 8 -> new Difference.Order();
+            case 9 -> new Difference.SeveralTransforms(first, second);
+            case 10 -> new Difference.TransformNotOffered(first, second);
+            case 11 -> new Difference.Id(first, second, third, (int) out[4]);
+            case 12 -> new Difference.Attributes(first, second);
+            case 13 -> new Difference.OtherSet(first, second);
+            case 14 -> new Difference.OtherTransform(first, second, third);
+            case 15 -> new Difference.NothingChosen();
+            default -> throw Lent.unknown(out[0]);
+        };
     }
 
     /** The nonce of the initiator's or of the responder's message, of which both are given; empty where that message has none. */

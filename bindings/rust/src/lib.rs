@@ -15,7 +15,10 @@ pub use capture::{
     carried, file_header, header_cause, record, record_header, Addresses, Carried, HeaderCause, Listed, Order, Ports,
     RecordHeader,
 };
-pub use policy::{book, cause, choose, place, reply, Book, Cause, Choice, OfSet, Place, Places, Transforms, Why};
+pub use policy::{
+    book, cause, choose, difference, lawful, place, reply, Book, Cause, Choice, Difference, OfSet, Place, Places,
+    Transforms, Why,
+};
 pub use quick::{nonce, Agreed, End, EndRecord, Lent, Own, Role, Spis, Standing, State, Step, BUFFER};
 pub use reading::{datagram, element, identity, message, name, payload, Datagram, Message, Part, Payload};
 pub use refusal::Refusal;

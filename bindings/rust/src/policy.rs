@@ -1,7 +1,7 @@
-//! Policy: the book, what it chooses of a message, the reply, and why nothing suits.
+//! Policy: the book, what it chooses of a message, the reply, why nothing suits, and whether another's reply is lawful.
 
 use crate::raw;
-use crate::refusal::{done, small, Refusal};
+use crate::refusal::{always_done, done, refusal, small, Refusal};
 use std::ops::Deref;
 
 /// A policy book that reads.
@@ -204,4 +204,119 @@ pub fn place(message: &[u8], set: u8, proposal: u8, transform: u8) -> Result<Opt
         }
         _ => unreachable!("the core answered {out:?}"),
     })
+}
+
+/// Whether a gateway's reply is lawful beside the offer that it answers: it repeats one offered set, with one offered transform in each
+/// proposal, unaltered and in the offer's order; with a book, it is also what that chooses of the offer. Refused as
+/// [`message`](crate::message) is of the offer, and with 16 where it has no SA payload; with 8193; the same of the reply; with 15 and
+/// with 14. [`difference`] tells what it is.
+pub fn lawful(offer: &[u8], reply: &[u8], book: Option<&[u8]>) -> Result<(), Refusal> {
+    let lent = book.unwrap_or_default();
+    done(unsafe {
+        raw::tallowbrim_lawful(
+            offer.as_ptr(),
+            offer.len(),
+            reply.as_ptr(),
+            reply.len(),
+            book.is_some(),
+            lent.as_ptr(),
+            lent.len(),
+        )
+    })
+}
+
+/// What differs first between a reply and the offer that it answers, or what a book chooses of that. Sets and transforms are told by their
+/// numbers; a protocol is that of the proposal.
+#[derive(Clone, Copy, Debug, PartialEq, Eq)]
+pub enum Difference {
+    /// Nothing does: the reply is lawful.
+    Nothing,
+    /// The offer cannot be read.
+    OfferRefused(Refusal),
+    /// The book cannot be read.
+    BookRefused(Refusal),
+    /// The reply cannot be read.
+    ReplyRefused(Refusal),
+    /// The reply has so many sets.
+    SeveralSets(u8),
+    /// The number of its set is not offered.
+    SetNotOffered(u8),
+    /// Its set has other protocols than the offered one.
+    Protocols,
+    /// Its set has them in another order.
+    Order,
+    /// A proposal has so many transforms.
+    #[allow(missing_docs)]
+    SeveralTransforms { protocol: u8, count: u8 },
+    /// The number of a transform is not offered.
+    #[allow(missing_docs)]
+    TransformNotOffered { protocol: u8, number: u8 },
+    /// A transform has another ID.
+    #[allow(missing_docs)]
+    Id { protocol: u8, number: u8, found: u8, offered: u8 },
+    /// A transform has other attributes.
+    #[allow(missing_docs)]
+    Attributes { protocol: u8, number: u8 },
+    /// The book chooses another set.
+    #[allow(missing_docs)]
+    OtherSet { found: u8, chosen: u8 },
+    /// The book chooses another transform.
+    #[allow(missing_docs)]
+    OtherTransform { protocol: u8, found: u8, chosen: u8 },
+    /// The book chooses nothing.
+    NothingChosen,
+}
+
+/// What differs first of a reply; it is lawful where nothing does.
+pub fn difference(offer: &[u8], reply: &[u8], book: Option<&[u8]>) -> Difference {
+    let lent = book.unwrap_or_default();
+    let mut out = [0; 5];
+    always_done(unsafe {
+        raw::tallowbrim_difference(
+            offer.as_ptr(),
+            offer.len(),
+            reply.as_ptr(),
+            reply.len(),
+            book.is_some(),
+            lent.as_ptr(),
+            lent.len(),
+            &mut out,
+        )
+    });
+    Difference::new(out)
+}
+
+impl Difference {
+    /// From the words of an answer: which difference, and its values.
+    fn new(out: [u64; 5]) -> Difference {
+        match out {
+            [1, ..] => Difference::Nothing,
+            [2, number, ..] => Difference::OfferRefused(refusal(number)),
+            [3, number, ..] => Difference::BookRefused(refusal(number)),
+            [4, number, ..] => Difference::ReplyRefused(refusal(number)),
+            [5, count, ..] => Difference::SeveralSets(small(count)),
+            [6, number, ..] => Difference::SetNotOffered(small(number)),
+            [7, ..] => Difference::Protocols,
+            [8, ..] => Difference::Order,
+            [9, protocol, count, ..] => {
+                Difference::SeveralTransforms { protocol: small(protocol), count: small(count) }
+            }
+            [10, protocol, number, ..] => {
+                Difference::TransformNotOffered { protocol: small(protocol), number: small(number) }
+            }
+            [11, protocol, number, found, offered] => Difference::Id {
+                protocol: small(protocol),
+                number: small(number),
+                found: small(found),
+                offered: small(offered),
+            },
+            [12, protocol, number, ..] => Difference::Attributes { protocol: small(protocol), number: small(number) },
+            [13, found, chosen, ..] => Difference::OtherSet { found: small(found), chosen: small(chosen) },
+            [14, protocol, found, chosen, _] => {
+                Difference::OtherTransform { protocol: small(protocol), found: small(found), chosen: small(chosen) }
+            }
+            [15, ..] => Difference::NothingChosen,
+            _ => unreachable!("the core answered {out:?}"),
+        }
+    }
 }

@@ -55,6 +55,25 @@ extern "C" {
         transform: u8,
         out: &mut [u64; 4],
     ) -> u32;
+    pub fn tallowbrim_lawful(
+        offer: *const u8,
+        offer_length: usize,
+        reply: *const u8,
+        reply_length: usize,
+        booked: bool,
+        book: *const u8,
+        book_length: usize,
+    ) -> u32;
+    pub fn tallowbrim_difference(
+        offer: *const u8,
+        offer_length: usize,
+        reply: *const u8,
+        reply_length: usize,
+        booked: bool,
+        book: *const u8,
+        book_length: usize,
+        out: &mut [u64; 5],
+    ) -> u32;
 
     pub fn tallowbrim_fresh(
         end: &mut [u8; END],

@@ -16,7 +16,7 @@ impl Refusal {
         self.0
     }
 
-    /// What the number says, as docs/NUMBERS.md has it, but for the script that it names there.
+    /// What the number says, as docs/NUMBERS.md has it, but for the scripts that it names there.
     pub fn sentence(self) -> &'static str {
         let row = NUMBERS.lines().find_map(|line| line.strip_prefix(&format!("| {} |", self.0)));
         let said = row.and_then(|row| row.trim_end_matches(" |").split("| ").nth(1));
@@ -72,7 +72,11 @@ mod tests {
     #[test]
     fn a_refusal_says_its_sentence() {
         let said = |number| Refusal(number).to_string();
-        assert_eq!(said(14), "refused 14: the offer is sound, and no set of it suits any line of the book");
+        assert_eq!(
+            said(14),
+            "refused 14: the offer is sound, and no set of it suits any line of the book, or a reply takes another choice than \
+             the book's"
+        );
         assert_eq!(said(8_193), "refused 8193: the policy book is unlawful");
         assert_eq!(
             said(8_197),

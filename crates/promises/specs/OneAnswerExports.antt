@@ -28,6 +28,10 @@ use Rattle.exports_why.proofs.tallowbrim_cause.Kinds as tallowbrim-cause-kinds
 use Rattle.exports_why.proofs.tallowbrim_cause.Reads as tallowbrim-cause-reads
 use Rattle.exports_why.proofs.tallowbrim_place.Kinds as tallowbrim-place-kinds
 use Rattle.exports_why.proofs.tallowbrim_place.Reads as tallowbrim-place-reads
+use Rattle.exports_lawful.proofs.tallowbrim_lawful.Kinds as tallowbrim-lawful-kinds
+use Rattle.exports_lawful.proofs.tallowbrim_lawful.Reads as tallowbrim-lawful-reads
+use Rattle.exports_lawful.proofs.tallowbrim_difference.Kinds as tallowbrim-difference-kinds
+use Rattle.exports_lawful.proofs.tallowbrim_difference.Reads as tallowbrim-difference-reads
 use Rattle.exports_end.proofs.state_number.Kinds as state-number-kinds
 use Rattle.exports_end.proofs.state_number.Reads as state-number-reads
 use Rattle.exports_end.proofs.transforms_values.Kinds as transforms-values-kinds
@@ -129,6 +133,14 @@ pub exports-why-tallowbrim-place :
     OneAnswer 2 tallowbrim-place-kinds.ps tallowbrim-place-kinds.r {A = ℕ × List ℕ} (λ κs x s. (x, now (s .1 .1 .1 .1 .0)))
     tallowbrim-place-reads.Post
 exports-why-tallowbrim-place κs arguments x y s t p q = sym p ∙ q
+
+pub exports-lawful-tallowbrim-lawful : OneAnswer 3 tallowbrim-lawful-kinds.ps tallowbrim-lawful-kinds.r result tallowbrim-lawful-reads.Post
+exports-lawful-tallowbrim-lawful κs arguments x y s t p q = p ∙ sym q
+
+pub exports-lawful-tallowbrim-difference :
+    OneAnswer 4 tallowbrim-difference-kinds.ps tallowbrim-difference-kinds.r {A = ℕ × List ℕ} (λ κs x s. (x, now (s .1 .1 .1 .1 .0)))
+    tallowbrim-difference-reads.Post
+exports-lawful-tallowbrim-difference κs arguments x y s t p q = sym p ∙ q
 
 pub exports-end-state-number : OneAnswer 0 state-number-kinds.ps state-number-kinds.r result state-number-reads.Post
 exports-end-state-number κs arguments x y s t p q = p ∙ sym q

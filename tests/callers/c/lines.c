@@ -31,7 +31,7 @@ struct seat {
 /* A byte more than the longest line has: one that is too long fills it. */
 static char line[LONGEST_LINE + 1];
 static struct word words[MOST_WORDS];
-static struct bytes first, second;
+static struct bytes first, second, third;
 static tallowbrim_table table;
 static tallowbrim_receive lent;
 static struct seat initiator_seat = {.sent_room = LENT_AT_FIRST, .got_room = LENT_AT_FIRST, .output_room = LENT_AT_FIRST};
@@ -304,6 +304,41 @@ static bool why(void)
         }
     }
     return true;
+}
+
+/* ---- Whether a reply is lawful, without a book and with one. */
+
+/* The number that belongs to what differs. */
+static uint64_t number_of(const uint64_t difference[5])
+{
+    if (difference[0] <= 4)
+        return difference[0] == 1 ? 0 : difference[1];
+    return difference[0] <= 12 ? 15 : 14;
+}
+
+/* Without a book that of a line before is lent, at which nothing may look. Both calls have to say the same. */
+static bool lawful(bool booked)
+{
+    uint64_t out[5];
+    if (!read_two(words[1], words[2]) || (booked && !read_bytes(words[3], &third)))
+        return false;
+    uint32_t refusal = tallowbrim_lawful(first.at, first.length, second.at, second.length, booked, third.at, third.length);
+    tallowbrim_difference(first.at, first.length, second.at, second.length, booked, third.at, third.length, out);
+    if (number_of(out) != refusal)
+        put_number("two answers:", number_of(out));
+    else
+        put_answer(refusal, "lawful", NULL, 0);
+    return true;
+}
+
+static bool lawful_alone(void)
+{
+    return lawful(false);
+}
+
+static bool lawful_by_book(void)
+{
+    return lawful(true);
 }
 
 /* ---- Sequence numbers. */
@@ -609,6 +644,7 @@ static const struct {
 } verbs[] = {
     {"port", 2, port}, {"der", 2, der}, {"read", 2, message}, {"identity", 3, identity},
     {"book", 2, book}, {"choose", 3, choose}, {"reply", 6, reply}, {"why", 3, why},
+    {"lawful", 3, lawful_alone}, {"lawful", 4, lawful_by_book},
     {"add", 4, life}, {"remove", 4, life}, {"send", 4, life}, {"loss", 4, life}, {"packet", 5, packet},
     {"lent", 2, lent_new_or_loss}, {"lent", 3, lent_step}, {"frame", 3, frame},
     {"fresh", 8, fresh}, {"room", 5, room}, {"begin", 4, begin}, {"deliver", 4, deliver}, {"tick", 2, tick},

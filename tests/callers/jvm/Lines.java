@@ -93,6 +93,8 @@ public final class Lines {
             case "book/2" -> book(bytes(w[1]));
             case "choose/3" -> choose(bytes(w[1]), bytes(w[2]));
             case "why/3" -> why(bytes(w[1]), bytes(w[2]));
+            case "lawful/3" -> lawful(bytes(w[1]), bytes(w[2]));
+            case "lawful/4" -> lawful(bytes(w[1]), bytes(w[2]), bytes(w[3]));
             case "reply/6" -> reply(bytes(w[1]), number(w[2], LARGEST), number(w[3], LARGEST), size(w[4]), bytes(w[5]));
             case "lent/2", "lent/3" -> lent(w);
             case "add/4", "remove/4", "send/4", "loss/4" -> entry(w[0], number32(w[1]), protocol(w[2]), number32(w[3]));
@@ -281,6 +283,16 @@ public final class Lines {
             return "seconds";
         }
         return why instanceof Why.Kilobytes ? "kilobytes" : "none";
+    }
+
+    private static String lawful(byte[] offer, byte[] reply) throws Refusal {
+        Tallowbrim.lawful(offer, reply);
+        return "lawful";
+    }
+
+    private static String lawful(byte[] offer, byte[] reply, byte[] book) throws Refusal {
+        Tallowbrim.lawful(offer, reply, book);
+        return "lawful";
     }
 
     // ---- sequence numbers and captures

@@ -80,7 +80,7 @@ impl Caller {
             [b"identity", b"2", body] => done(tallowbrim::identity(tallowbrim::MAIN_MODE, &words::bytes(body)?)),
             [b"identity", b"32", body] => done(tallowbrim::identity(tallowbrim::QUICK_MODE, &words::bytes(body)?)),
             [b"der", bytes] => der(&words::bytes(bytes)?).to_string(),
-            [b"book" | b"choose" | b"why" | b"reply", ..] => said(policy::answer(words)?),
+            [b"book" | b"choose" | b"why" | b"lawful" | b"reply", ..] => said(policy::answer(words)?),
             [b"frame", original, record] => {
                 listing::frame(&mut self.table, words::decimal(original)?, &words::bytes(record)?)
             }

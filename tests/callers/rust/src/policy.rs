@@ -1,4 +1,4 @@
-//! The lines `book`, `choose`, `reply` and `why`, and what `./verdict` prints.
+//! The lines `book`, `choose`, `reply`, `why` and `lawful`, and what `./verdict` prints.
 
 use crate::{said, words};
 use tallowbrim::{Book, Cause, Choice, Places, Refusal, Why};
@@ -14,6 +14,10 @@ pub fn answer(words: &[&[u8]]) -> Option<Result<String, Refusal>> {
             choice.map(|Choice { set, line, transforms }| format!("chosen {set} {line}{}", numbers(&transforms)))
         }
         [b"why", book, message] => why(&words::bytes(book)?, &words::bytes(message)?),
+        [b"lawful", offer, reply] => lawful(&words::bytes(offer)?, &words::bytes(reply)?, None),
+        [b"lawful", offer, reply, book] => {
+            lawful(&words::bytes(offer)?, &words::bytes(reply)?, Some(&words::bytes(book)?))
+        }
         [b"reply", book, ah, esp, room, message] => {
             let (book, ah, esp) = (words::bytes(book)?, words::decimal(ah)?, words::decimal(esp)?);
             let mut buffer = vec![0; words::room(room)?];
@@ -77,6 +81,10 @@ fn cause(told: Cause) -> String {
         Cause::Seconds { .. } => "seconds".to_string(),
         Cause::Kilobytes => "kilobytes".to_string(),
     }
+}
+
+fn lawful(offer: &[u8], reply: &[u8], book: Option<&[u8]>) -> Result<String, Refusal> {
+    tallowbrim::lawful(offer, reply, book).map(|()| "lawful".to_string())
 }
 
 /// Lines with their ends.
