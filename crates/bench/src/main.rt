@@ -5,6 +5,7 @@ mod captured;
 mod choosing;
 mod element;
 mod identification;
+mod lawfulness;
 mod lent;
 mod lives;
 mod port;

@@ -8,6 +8,7 @@ use crate::choosing;
 use crate::element;
 use crate::flush;
 use crate::identification;
+use crate::lawfulness;
 use crate::lent;
 use crate::lives;
 use crate::port;
@@ -120,6 +121,9 @@ fn reading_verbs(
     }
     if (words == 3) & equal(verb, b"why") {
         return reasons::answer(line, bytes, out, said);
+    }
+    if ((words == 3) | (words == 4)) & equal(verb, b"lawful") {
+        return lawfulness::answer(line, bytes, out, said);
     }
     if (words == 6) & equal(verb, b"reply") {
         return replying::answer(line, bytes, out, said);

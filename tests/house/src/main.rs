@@ -3,7 +3,8 @@
 //! docs/ARCHITECTURE.md are as they are made from the sources. The edits of tests/wrong-cores name a definition. No axiom is declared. The
 //! pages name only files that exist, and where they lay out definitions only names that the sources declare. Each sample answers as its page
 //! says, and README.md shows what it does. Header, archives and that page have the same exported functions.
-//! `house ROOT BENCH VERDICT CAPTURE WHY LIBRARY`; the last line is `N passed, M failed`. `house --write ROOT` makes column and diagram anew (tools/pages).
+//! `house ROOT BENCH VERDICT CAPTURE WHY LAWFUL LIBRARY`; the last line is `N passed, M failed`. `house --write ROOT` makes column and diagram
+//! anew (tools/pages).
 
 mod diagram;
 mod edits;
@@ -63,8 +64,8 @@ fn main() -> ExitCode {
             return ExitCode::from(u8::from(!write_pages(Path::new(root))));
         }
     }
-    let [_, root, bench, verdict, capture, why, library] = &arguments[..] else {
-        eprintln!("house ROOT BENCH VERDICT CAPTURE WHY LIBRARY, or house --write ROOT");
+    let [_, root, bench, verdict, capture, why, lawful, library] = &arguments[..] else {
+        eprintln!("house ROOT BENCH VERDICT CAPTURE WHY LAWFUL LIBRARY, or house --write ROOT");
         return ExitCode::from(2);
     };
     let root = Path::new(root);
@@ -82,6 +83,7 @@ fn main() -> ExitCode {
     verdicts(root, verdict, &mut tally);
     listings(root, capture, &mut tally);
     causes(root, why, &mut tally);
+    replies(root, lawful, &mut tally);
     shown(root, &mut tally);
     exports(root, Path::new(library), &mut tally);
     println!("{} passed, {} failed", tally.passed, tally.failed);
@@ -293,10 +295,28 @@ fn listings(root: &Path, capture: &str, tally: &mut Tally) {
     }
 }
 
-/// A run of ./verdict, ./why or ./capture in README.md is one on a sample, and shows what that sample's page says.
+/// samples/X.offer and samples/X.reply are for lawful, and samples/X.lawful is what it prints; where there is a samples/X.book, samples/X.booked
+/// is what it prints with that. Its arguments are how many bytes each has.
+fn replies(root: &Path, lawful: &str, tally: &mut Tally) {
+    let offers = below(&root.join("samples"), "offer");
+    tally.fact(!offers.is_empty(), || "samples/ has no offer with a reply".into());
+    for offer in offers {
+        let [reply, book] = ["reply", "book"].map(|kind| offer.with_extension(kind));
+        let mut input = [content(&offer), content(&reply)].concat();
+        let mut judge = Command::new(lawful);
+        judge.args([size(&offer), size(&reply)]);
+        answers(&mut judge, &input, &offer.with_extension("lawful"), tally);
+        if book.exists() {
+            input.extend(content(&book));
+            answers(judge.arg(size(&book)), &input, &offer.with_extension("booked"), tally);
+        }
+    }
+}
+
+/// A run of ./verdict, ./why, ./lawful or ./capture in README.md is one on a sample, and shows what that sample's page says.
 fn shown(root: &Path, tally: &mut Tally) {
     let readme = text(&root.join("README.md"));
-    for program in ["verdict", "why", "capture"] {
+    for program in ["verdict", "why", "lawful", "capture"] {
         let runs: Vec<&str> = readme.split(&format!("\n$ ./{program} ")).skip(1).collect();
         tally.fact(!runs.is_empty(), || format!("README.md shows no run of ./{program}"));
         for run in runs {
@@ -315,6 +335,8 @@ fn page_of(program: &str, files: &str) -> Option<String> {
     let name = files.split('.').next()?;
     let kind = match (program, &files.replace(name, "X")[..]) {
         ("verdict" | "why", "X.policy X.message") => program,
+        ("lawful", "X.offer X.reply") => "lawful",
+        ("lawful", "X.offer X.reply X.policy") => "booked",
         ("capture", "X.pcap") => "listing",
         ("capture", "X.pcap X.policy") => "choices",
         _ => return None,
@@ -350,6 +372,11 @@ fn unlike(one: &BTreeSet<String>, other: &BTreeSet<String>) -> String {
 
 fn content(path: &Path) -> Vec<u8> {
     fs::read(path).unwrap_or_default()
+}
+
+/// How many bytes a file has, as a word.
+fn size(path: &Path) -> String {
+    content(path).len().to_string()
 }
 
 /// A call prints for this input just what the page says.
