@@ -1,3 +1,3 @@
-pub mod RepeatLaws
 pub mod Refusals
+pub mod RepeatLaws
 pub mod ReplyPasses

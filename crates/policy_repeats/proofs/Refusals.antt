@@ -1,7 +1,7 @@
 -- Which number a difference is refused with: 15 where the reply does not repeat the offer, 14 where it is not the book's choice.
 use Prim.Native.Nat.{ℕ}
-use mathlib.Core.Path.{_≡_, refl}
-use mathlib.Core.Logic.{_⊎_, inl, inr}
+use mathlib.Core.Path.{_≡_, refl, sym, ap, _∙_}
+use mathlib.Core.Logic.{_⊎_, inl, inr, ⊎-elim}
 use mathlib.Core.List.{List}
 use mathlib.Core.Bool.{Bool, true, false, not}
 use lib.ListN.{length}
@@ -42,24 +42,38 @@ refused-first (OtherSet found chosen) b number h = refl
 refused-first (OtherTransform protocol found chosen) b number h = refl
 refused-first NothingChosen b number h = refl
 
--- only nothing is lawful
-pub lawful-nothing : (a : Difference) → lawfulBy a ≡ Lawful → a ≡ Nothing
+-- every other difference is refused
+something-refused : (a : Difference) → (a ≡ Nothing) ⊎ ((number : ℕ) × (lawfulBy a ≡ Refused number))
 unfolding lawfulBy
-lawful-nothing Nothing h = refl
-lawful-nothing (OfferRefused n) h = never (cc)
-lawful-nothing (BookRefused n) h = never (cc)
-lawful-nothing (ReplyRefused n) h = never (cc)
-lawful-nothing (SeveralSets count) h = never (cc)
-lawful-nothing (SetNotOffered n) h = never (cc)
-lawful-nothing Protocols h = never (cc)
-lawful-nothing Order h = never (cc)
-lawful-nothing (SeveralTransforms protocol count) h = never (cc)
-lawful-nothing (TransformNotOffered protocol n) h = never (cc)
-lawful-nothing (Id protocol n found offered) h = never (cc)
-lawful-nothing (Attributes protocol n) h = never (cc)
-lawful-nothing (OtherSet found chosen) h = never (cc)
-lawful-nothing (OtherTransform protocol found chosen) h = never (cc)
-lawful-nothing NothingChosen h = never (cc)
+something-refused Nothing = inl refl
+something-refused (OfferRefused n) = inr (n, refl)
+something-refused (BookRefused n) = inr (n, refl)
+something-refused (ReplyRefused n) = inr (n, refl)
+something-refused (SeveralSets count) = inr (15, refl)
+something-refused (SetNotOffered n) = inr (15, refl)
+something-refused Protocols = inr (15, refl)
+something-refused Order = inr (15, refl)
+something-refused (SeveralTransforms protocol count) = inr (15, refl)
+something-refused (TransformNotOffered protocol n) = inr (15, refl)
+something-refused (Id protocol n found offered) = inr (15, refl)
+something-refused (Attributes protocol n) = inr (15, refl)
+something-refused (OtherSet found chosen) = inr (14, refl)
+something-refused (OtherTransform protocol found chosen) = inr (14, refl)
+something-refused NothingChosen = inr (14, refl)
+
+-- so only nothing is lawful, and nothing differs in either of two where nothing differs first
+pub lawful-nothing : (a : Difference) → lawfulBy a ≡ Lawful → a ≡ Nothing
+lawful-nothing a h = ⊎-elim (λ e. e) (λ r. let bad = sym h ∙ r .1 in never (cc)) (something-refused a)
+
+pub neither-differs : (a b : Difference) → (a orElse b) ≡ Nothing → (a ≡ Nothing) × (b ≡ Nothing)
+unfolding _orElse_ lawfulBy
+neither-differs a b h =
+    ⊎-elim (λ e. (e, rw e at h)) (λ r. let is = sym (refused-first a b (r .0) (r .1)) ∙ h in let bad = sym (ap lawfulBy is) ∙ r .1 in never (cc))
+    (something-refused a)
+
+pub nothing-differs : (a b : Difference) → a ≡ Nothing → b ≡ Nothing → (a orElse b) ≡ Nothing
+unfolding _orElse_
+nothing-differs a b h g = rw (h, g)
 
 -- nothing differs, or what does is refused with this number
 abbrev pub Only : (number : ℕ) (a : Difference) → Type 0

@@ -31,34 +31,10 @@ use Rattle.policy_choice.specs.declared.Choice.the-variants as choices
 use Rattle.policy_choice.specs.declared.Transforms.{Transforms}
 use Rattle.policy_choice.specs.declared.Transforms.the-variants.{One, Two}
 use Rattle.policy_choice.proofs.Laws.{Choosing, fourteen, chose, choosing}
-use Rattle.policy_lawful.specs.declared.Difference.{Difference}
-use Rattle.policy_lawful.specs.declared.Difference.the-variants.{Nothing, OfferRefused, BookRefused, ReplyRefused, SeveralSets, SetNotOffered, Protocols, Order, SeveralTransforms, TransformNotOffered, Id, Attributes, OtherSet, OtherTransform, NothingChosen}
-use Rattle.policy_lawful.specs.Lawful.{_orElse_, repliedTransform, offeredTransform, severalTransforms, transformNotOffered, otherId, otherAttributes, last, hasProtocol, sameProtocols, sameOrder, protocolsDiffer, transformsDiffer, repliedSet, repliedNumber, offeredSet, setsDiffer, bodiesDiffer, otherTransform, otherTransforms, otherSet, choiceDiffers}
+use Rattle.policy_lawful.specs.declared.Difference.the-variants.{Nothing}
+use Rattle.policy_lawful.specs.Lawful.{repliedTransform, offeredTransform, severalTransforms, transformNotOffered, otherId, otherAttributes, last, hasProtocol, sameProtocols, sameOrder, protocolsDiffer, transformsDiffer, repliedSet, repliedNumber, offeredSet, setsDiffer, bodiesDiffer, otherTransform, otherTransforms, otherSet, choiceDiffers}
+use Rattle.policy_repeats.proofs.Refusals.{neither-differs, nothing-differs}
 use Rattle.policy_repeats.specs.Repeats.{content, RepeatsProposal, RepeatsSet, RepeatsOffer, Takes, one, two, IsChoice}
-
--- ---- nothing differs in either of two
-
-pub neither-differs : (a b : Difference) → (a orElse b) ≡ Nothing → (a ≡ Nothing) × (b ≡ Nothing)
-unfolding _orElse_
-neither-differs Nothing b h = (refl, h)
-neither-differs (OfferRefused number) b h = never (cc)
-neither-differs (BookRefused number) b h = never (cc)
-neither-differs (ReplyRefused number) b h = never (cc)
-neither-differs (SeveralSets count) b h = never (cc)
-neither-differs (SetNotOffered number) b h = never (cc)
-neither-differs Protocols b h = never (cc)
-neither-differs Order b h = never (cc)
-neither-differs (SeveralTransforms protocol count) b h = never (cc)
-neither-differs (TransformNotOffered protocol number) b h = never (cc)
-neither-differs (Id protocol number found offered) b h = never (cc)
-neither-differs (Attributes protocol number) b h = never (cc)
-neither-differs (OtherSet found chosen) b h = never (cc)
-neither-differs (OtherTransform protocol found chosen) b h = never (cc)
-neither-differs NothingChosen b h = never (cc)
-
-pub nothing-differs : (a b : Difference) → a ≡ Nothing → b ≡ Nothing → (a orElse b) ≡ Nothing
-unfolding _orElse_
-nothing-differs a b h g = rw (h, g)
 
 -- ---- numbers
 

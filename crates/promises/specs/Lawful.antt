@@ -49,8 +49,8 @@ use Rattle.policy_lawful.specs.declared.Lawfulness.the-variants.{Refused, Lawfu
 use Rattle.policy_lawful.specs.Lawful.{_orElse_, offerRefused, bookRefused, replyRefused, bodiesDiffer, choiceDiffers, unread, compared, firstDifference, lawfulBy, replyLawful, lawfulAnswer}
 use Rattle.policy_lawful.proofs.LawfulWays.{else-last}
 use Rattle.policy_repeats.specs.Repeats.{content, RepeatsOffer, Takes, one, two, IsChoice}
-use Rattle.policy_repeats.proofs.RepeatLaws.{neither-differs, nothing-repeats, repeats-nothing, nothing-chosen, chosen-nothing, set-finds, ChoseSet, chose-set, same-count, same-protocols, same-transforms}
-use Rattle.policy_repeats.proofs.Refusals.{refused-first, lawful-nothing, bodies-only, choice-only}
+use Rattle.policy_repeats.proofs.RepeatLaws.{nothing-repeats, repeats-nothing, nothing-chosen, chosen-nothing, set-finds, ChoseSet, chose-set, same-count, same-protocols, same-transforms}
+use Rattle.policy_repeats.proofs.Refusals.{refused-first, lawful-nothing, neither-differs, bodies-only, choice-only}
 use Rattle.policy_repeats.proofs.ReplyPasses.{reply-repeats-offer, reply-is-choice}
 
 -- ---- what is recorded
