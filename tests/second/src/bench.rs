@@ -6,7 +6,7 @@ use crate::quick_lines::Ends;
 use crate::refusal::Refusal;
 use crate::reply::{self, Spis};
 use crate::sequence::{Key, Loss, Receive, Table};
-use crate::{der, identity, lines, port4500, record, why};
+use crate::{der, identity, lawful, lines, port4500, record, why};
 use std::io::{self, BufRead, BufReader, Read, Write};
 
 const LONGEST_LINE: usize = 65_535;
@@ -43,6 +43,14 @@ impl Bench {
             [b"why", book, message] => {
                 let (book, message) = (lines::bytes(book)?, lines::bytes(message)?);
                 Some(answer(why::answer(&book, &message), |causes| causes))
+            }
+            [b"lawful", offer, reply] => {
+                let (offer, reply) = (lines::bytes(offer)?, lines::bytes(reply)?);
+                Some(lawful(lawful::answer(&offer, &reply, None)))
+            }
+            [b"lawful", offer, reply, book] => {
+                let (offer, reply) = (lines::bytes(offer)?, lines::bytes(reply)?);
+                Some(lawful(lawful::answer(&offer, &reply, Some(&lines::bytes(book)?))))
             }
             [b"reply", book, ah, esp, room, message] => {
                 let (book, message) = (lines::bytes(book)?, lines::bytes(message)?);
@@ -99,6 +107,10 @@ fn done(outcome: Result<(), Refusal>) -> String {
 
 fn accepted(outcome: Result<(), Refusal>) -> String {
     answer(outcome, |()| "accepted".to_string())
+}
+
+fn lawful(outcome: Result<(), Refusal>) -> String {
+    answer(outcome, |()| "lawful".to_string())
 }
 
 fn reading(reading: Reading) -> String {

@@ -1,11 +1,13 @@
 //! The second program, written from document 01 and the requests alone. Each rule has a room of its own; `bench`, `verdict`,
-//! `capture` and `why` are what a caller sees of them. It is a library so that the makers of test lines can use what it writes.
+//! `capture`, `why` and `lawful` are what a caller sees of them. It is a library so that the makers of test lines can use what it
+//! writes.
 
 pub mod bench;
 pub mod capture;
 mod der;
 mod frame;
 mod identity;
+pub mod lawful;
 mod lines;
 mod message;
 mod offer;

@@ -260,7 +260,11 @@ impl Transform<'_> {
     }
 
     fn attributes(&self) -> impl Iterator<Item = Attribute<'_>> {
-        items(&self.bytes[TRANSFORM_HEADER_SIZE..], attribute_length).map(Attribute::new)
+        items(self.attribute_bytes(), attribute_length).map(Attribute::new)
+    }
+
+    pub fn attribute_bytes(&self) -> &[u8] {
+        &self.bytes[TRANSFORM_HEADER_SIZE..]
     }
 }
 

@@ -43,9 +43,14 @@ fn lines(bytes: &[u8]) -> Result<String, Refusal> {
 }
 
 /// A choice as a line without its end.
-pub fn chosen(Choice { set, line, taken }: Choice) -> String {
+pub fn chosen(choice: Choice) -> String {
+    format!("chosen {}", numbers(&choice))
+}
+
+/// Set, line and transforms of a choice.
+pub fn numbers(Choice { set, line, taken }: &Choice) -> String {
     let transforms: String = taken.iter().map(|taken| format!(" {}", taken.transform.number)).collect();
-    format!("chosen set {set} line {line} transforms{transforms}")
+    format!("set {set} line {line} transforms{transforms}")
 }
 
 #[cfg(test)]
