@@ -8,8 +8,8 @@ pub struct Case {
     pub kind: &'static str,
     /// What is particular about it among those of its kind.
     pub detail: String,
-    /// Whole lines; only in a case that runs alone may the last one lack its line end. Or a book and a message, or a
-    /// capture.
+    /// Whole lines; only in a case that runs alone may the last one lack its line end. Or a book and a message, a
+    /// capture, or an offer, a reply and perhaps a book.
     pub input: Vec<u8>,
     /// One for each answer owed: the right one, or `None` where only agreement is asked.
     pub answers: Vec<Option<String>>,
@@ -18,6 +18,48 @@ pub struct Case {
     pub book: Option<Vec<u8>>,
     /// What is offered, where the message can be read and answers are counted by it.
     pub offer: Option<Offer>,
+    /// What the program `lawful` is known to say where the line of that name is asked.
+    pub said: Option<Said>,
+}
+
+/// What is said of a reply: that it is lawful, or a number and the words that go with it.
+#[derive(Clone, Debug, PartialEq)]
+pub enum Said {
+    Lawful,
+    Refused(u16, String),
+}
+
+impl Said {
+    /// The answer to the line.
+    pub fn answer(&self) -> String {
+        match self {
+            Said::Lawful => "lawful".to_string(),
+            Said::Refused(number, _) => refused(*number),
+        }
+    }
+
+    /// What the program prints.
+    pub fn lines(&self) -> Vec<String> {
+        match self {
+            Said::Lawful => vec![self.answer()],
+            Said::Refused(_, words) => vec![self.answer(), words.clone()],
+        }
+    }
+}
+
+/// How many bytes of an input are the offer, the reply and the book.
+#[derive(Clone, Copy, PartialEq)]
+pub struct Sizes {
+    pub offer: usize,
+    pub reply: usize,
+    pub book: Option<usize>,
+}
+
+impl Sizes {
+    /// As programs are given them.
+    pub fn arguments(&self) -> Vec<String> {
+        [Some(self.offer), Some(self.reply), self.book].into_iter().flatten().map(|size| size.to_string()).collect()
+    }
 }
 
 /// Which programs a case is for.
@@ -33,6 +75,8 @@ pub enum ProgramsOf {
     Captures { piece: usize },
     /// The programs that say why, likewise; of the core's own its words are read back. They may be told the book's size.
     Whys { piece: usize, book_size: Option<usize> },
+    /// The programs that say whether a reply is lawful, likewise.
+    Lawfuls { piece: usize, sizes: Sizes },
 }
 
 impl Case {
@@ -186,9 +230,38 @@ impl Cases {
         self.add(input, vec![lines.map(|lines| lines.join(LINE_END_SHOWN))], ProgramsOf::Whys { piece, book_size });
     }
 
+    /// A line `lawful OFFER REPLY [BOOK]`, with what is said of it where that is known.
+    pub fn judged(&mut self, offer: &[u8], reply: &[u8], book: Option<&[u8]>, said: Option<Said>) {
+        let words = [Some(offer), Some(reply), book].into_iter().flatten().map(word).collect::<Vec<_>>();
+        self.one_line(format!("lawful {}\n", words.join(" ")), said.as_ref().map(Said::answer));
+        self.made.last_mut().expect("it was made").said = said;
+    }
+
+    /// The same for a pair of programs.
+    pub fn judged_in_words(&mut self, offer: &[u8], reply: &[u8], book: Option<&[u8]>, said: Option<Said>) {
+        self.judged_in_pieces(offer, reply, book, usize::MAX, said);
+    }
+
+    pub fn judged_in_pieces(
+        &mut self,
+        offer: &[u8],
+        reply: &[u8],
+        book: Option<&[u8]>,
+        piece: usize,
+        said: Option<Said>,
+    ) {
+        // As the script gives them: a byte more than the longest of each at most.
+        let front = |bytes: &[u8], most: usize| bytes[..bytes.len().min(most)].to_vec();
+        let (offer, reply, book) = (front(offer, 8_193), front(reply, 8_193), book.map(|book| front(book, 83)));
+        let sizes = Sizes { offer: offer.len(), reply: reply.len(), book: book.as_ref().map(Vec::len) };
+        let lines = said.map(|said| said.lines().join(LINE_END_SHOWN));
+        let input = [offer, reply, book.unwrap_or_default()].concat();
+        self.add(input, vec![lines], ProgramsOf::Lawfuls { piece, sizes });
+    }
+
     fn add(&mut self, input: Vec<u8>, answers: Vec<Option<String>>, programs: ProgramsOf) {
         let (kind, detail) = (self.kind, self.detail.clone());
-        self.made.push(Case { kind, detail, input, answers, programs, book: None, offer: None });
+        self.made.push(Case { kind, detail, input, answers, programs, book: None, offer: None, said: None });
     }
 }
 

@@ -43,10 +43,8 @@ pub fn compare(programs: &Programs, cases: &[Case], in_order: bool, agreed: &mut
     let mut comparison = Comparison::default();
     for run in runs_of(cases, in_order) {
         match run[0].1.programs {
-            ProgramsOf::Verdicts { .. } | ProgramsOf::Captures { .. } | ProgramsOf::Whys { .. } => {
-                compare_whole_outputs(programs, run[0], &mut comparison, agreed);
-            }
             ProgramsOf::Lines | ProgramsOf::LinesAlone => compare_run(programs, &run, &mut comparison, agreed),
+            _ => compare_whole_outputs(programs, run[0], &mut comparison, agreed),
         }
     }
     comparison
@@ -63,10 +61,13 @@ pub fn runs_of(cases: &[Case], in_order: bool) -> Vec<Vec<(usize, &Case)>> {
 /// What the programs of a run get to read, in the pieces in which it comes.
 pub fn input_of(run: &[(usize, &Case)]) -> Vec<Vec<u8>> {
     match run[0].1.programs {
-        ProgramsOf::Verdicts { piece } | ProgramsOf::Captures { piece } | ProgramsOf::Whys { piece, .. } => {
-            run[0].1.input.chunks(piece).map(<[u8]>::to_vec).collect()
+        ProgramsOf::Verdicts { piece }
+        | ProgramsOf::Captures { piece }
+        | ProgramsOf::Whys { piece, .. }
+        | ProgramsOf::Lawfuls { piece, .. } => run[0].1.input.chunks(piece).map(<[u8]>::to_vec).collect(),
+        ProgramsOf::Lines | ProgramsOf::LinesAlone => {
+            vec![run.iter().map(|(_, case)| case.input.as_slice()).collect::<Vec<_>>().concat()]
         }
-        _ => vec![run.iter().map(|(_, case)| case.input.as_slice()).collect::<Vec<_>>().concat()],
     }
 }
 
@@ -101,6 +102,7 @@ fn compare_whole_outputs(programs: &Programs, case: (usize, &Case), comparison: 
     let ([core, second], name) = match case.1.programs {
         ProgramsOf::Captures { .. } => (programs.run_captures(pieces, case.1.book.as_deref()), "capture"),
         ProgramsOf::Whys { book_size, .. } => (programs.run_whys(pieces, book_size), "why"),
+        ProgramsOf::Lawfuls { sizes, .. } => (programs.run_lawfuls(pieces, sizes), "lawful"),
         _ => (programs.run_verdicts(pieces), "verdict"),
     };
     for (owner, run) in [("", &core), ("second ", &second)] {
@@ -183,6 +185,7 @@ mod tests {
             programs: ProgramsOf::Lines,
             book: None,
             offer: None,
+            said: None,
         }
     }
 

@@ -13,6 +13,8 @@ mod ends;
 mod exchanges;
 mod frames;
 mod identities;
+mod lawful;
+mod lawful_words;
 mod lifetimes;
 mod lines;
 mod message_checks;
@@ -91,8 +93,10 @@ pub const ALL: &[Group] = &[
     lifetimes::GROUP,
     replies::GROUP,
     why::GROUP,
+    lawful::GROUP,
     verdicts::GROUP,
     why_words::GROUP,
+    lawful_words::GROUP,
     captures::GROUP,
     ends::GROUP,
     deliveries::GROUP,

@@ -1,7 +1,7 @@
 //! Bytes that are written field by field, and remember where each field lies and what each length counts.
 
 /// How a length is written. Lengths are put right when everything inside them is written.
-#[derive(Clone, Copy)]
+#[derive(Clone, Copy, Debug, PartialEq)]
 pub enum Length {
     Right,
     Is(usize),

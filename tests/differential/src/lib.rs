@@ -16,6 +16,7 @@ mod offer;
 mod policy;
 pub mod programs;
 mod random;
+mod repeats;
 mod sequence;
 mod tree;
 mod wild;

@@ -1,5 +1,5 @@
-//! Feeds the same lines to `bench` and to the second program, the same books and messages to `verdict` and `why` and the
-//! same captures to `capture` and to the second program's own, and compares every answer; see ../README.md.
+//! Feeds the same lines to `bench` and to the second program, the same books and messages to `verdict`, `why` and `lawful` and
+//! the same captures to `capture` and to the second program's own, and compares every answer; see ../README.md.
 
 use differential::cases::{Case, LINE_END_SHOWN};
 use differential::compare::{compare, Comparison, Difference};
@@ -31,7 +31,7 @@ struct Request {
 
 fn request(mut arguments: impl Iterator<Item = String>) -> Option<Request> {
     let mut program = || arguments.next().map(PathBuf::from);
-    let programs = Programs::new([program()?, program()?, program()?, program()?, program()?]);
+    let programs = Programs::new([program()?, program()?, program()?, program()?, program()?, program()?]);
     let groups = groups::ALL.iter().collect();
     let mut request = Request { programs, seed: DEFAULT_SEED, groups, case: None };
     while let Some(option) = arguments.next() {
@@ -55,7 +55,9 @@ fn request(mut arguments: impl Iterator<Item = String>) -> Option<Request> {
 
 fn usage() -> ! {
     let names: Vec<_> = groups::ALL.iter().map(|group| group.name).collect();
-    eprintln!("usage: differential BENCH SECOND VERDICT CAPTURE WHY [--seed N] [--only GROUP,.. | --only GROUP:CASE]");
+    eprintln!(
+        "usage: differential BENCH SECOND VERDICT CAPTURE WHY LAWFUL [--seed N] [--only GROUP,.. | --only GROUP:CASE]"
+    );
     eprintln!("groups: {}", names.join(", "));
     std::process::exit(2)
 }
@@ -249,13 +251,9 @@ fn show(request: &Request, group: &Group, case: &Case, difference: &Difference) 
         format!("  second  {}", shortened(&answer(&difference.second))),
         format!("  known   {known}"),
         format!(
-            "  {}: differential {} {} {} {} {} --seed {} --only {}:{number}",
+            "  {}: differential {} --seed {} --only {}:{number}",
             if group.in_order { "all lines up to this one" } else { "this case alone and whole" },
-            request.programs.bench.display(),
-            request.programs.second.display(),
-            request.programs.verdict.display(),
-            request.programs.capture.display(),
-            request.programs.why.display(),
+            request.programs.shown(),
             request.seed,
             group.name
         ),
@@ -289,8 +287,8 @@ fn kinds_of(group: &Group, answer: &str) -> Vec<String> {
     kinds.split_off(kinds.len().saturating_sub(1))
 }
 
-/// What a line says without its numbers, bytes, places and addresses; a refusal keeps its number. What is said of every
-/// set and line has no end of kinds, and is one.
+/// What a line says without its numbers, bytes, places, addresses and stops; a refusal keeps its number. What is said of
+/// every set and line has no end of kinds, and is one.
 fn kind_of(line: &str) -> String {
     if line.split(' ').next() == Some("why") {
         return "why".to_string();
@@ -299,7 +297,7 @@ fn kind_of(line: &str) -> String {
     let is_of_value = |byte: u8| matches!(byte, b'0'..=b'9' | b'a'..=b'f' | b'@' | b'+' | b'-');
     // All bytes are looked at, which is faster for long words than to stop at the first that is none.
     let is_value = |word: &str| word.bytes().fold(true, |all, byte| all & is_of_value(byte));
-    let mut words = without_place_and_addresses(said).split(' ');
+    let mut words = without_place_and_addresses(said).split(' ').map(|word| word.trim_end_matches([':', ',', ';']));
     let verb = words.next();
     let kept = verb.into_iter().chain(words.filter(|word| !is_value(word))).chain([refusal]);
     kept.filter(|word| !word.is_empty()).collect::<Vec<_>>().join(" ")
@@ -345,6 +343,11 @@ mod tests {
         assert_eq!(kind_of("kept - ff"), "kept");
         assert_eq!(kind_of("refused 16"), "refused 16");
         assert_eq!(kind_of("bad line"), "bad line");
+        assert_eq!(
+            kind_of("reply: set 1: ESP transform 2 has ID 3, offered 4"),
+            "reply set ESP transform has ID offered"
+        );
+        assert_eq!(kind_of("reply: takes set 2; the book chooses nothing"), "reply takes set the book chooses nothing");
         assert_eq!(kind_of("why set 1 line 2 protocols"), "why");
         assert_eq!(kind_of("set 1 line 2 of 2+3 mode 1 to 3600 protocols 3"), "set line of mode to protocols");
         assert_eq!(kind_of("payload 1 at 28 length 52"), "payload at length");

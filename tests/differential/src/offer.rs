@@ -52,13 +52,13 @@ pub struct Transform {
     pub rest: Vec<u8>,
 }
 
-#[derive(Clone)]
+#[derive(Clone, Debug, PartialEq)]
 pub struct Attribute {
     pub kind: u16,
     pub value: Value,
 }
 
-#[derive(Clone)]
+#[derive(Clone, Debug, PartialEq)]
 pub enum Value {
     Fixed(u16),
     Variable(Length, Vec<u8>),

@@ -1,6 +1,7 @@
-//! Runs two programs on the same input: `bench` and the second program, or `verdict`, `capture` or `why` and the second
-//! program's own.
+//! Runs two programs on the same input: `bench` and the second program, or `verdict`, `capture`, `why` or `lawful` and the
+//! second program's own.
 
+use crate::cases::Sizes;
 use crate::words;
 use std::io::{Read, Write};
 use std::path::PathBuf;
@@ -25,6 +26,7 @@ pub struct Programs {
     pub verdict: PathBuf,
     pub capture: PathBuf,
     pub why: PathBuf,
+    pub lawful: PathBuf,
     started: Instant,
 }
 
@@ -54,8 +56,14 @@ pub struct Run {
 }
 
 impl Programs {
-    pub fn new([bench, second, verdict, capture, why]: [PathBuf; 5]) -> Programs {
-        Programs { bench, second, verdict, capture, why, started: Instant::now() }
+    pub fn new([bench, second, verdict, capture, why, lawful]: [PathBuf; 6]) -> Programs {
+        Programs { bench, second, verdict, capture, why, lawful, started: Instant::now() }
+    }
+
+    /// As they stand on the command line.
+    pub fn shown(&self) -> String {
+        let Programs { bench, second, verdict, capture, why, lawful, .. } = self;
+        [bench, second, verdict, capture, why, lawful].map(|program| program.display().to_string()).join(" ")
     }
 
     /// Both run at once; `bench` stands first.
@@ -92,6 +100,17 @@ impl Programs {
         let [mut why, second] = self.run_both(why, second, pieces);
         why.output = words::read_back(&why.output);
         [why, second]
+    }
+
+    /// Both run at once; `lawful` stands first. What it says beside its verdict is for a reader and not compared.
+    pub fn run_lawfuls(&self, pieces: Vec<Vec<u8>>, sizes: Sizes) -> [Run; 2] {
+        let (mut lawful, mut second) = (Command::new(&self.lawful), Command::new(&self.second));
+        lawful.stderr(Stdio::null());
+        second.arg("lawful");
+        for program in [&mut lawful, &mut second] {
+            program.args(sizes.arguments());
+        }
+        self.run_both(lawful, second, pieces)
     }
 
     fn run_both(&self, core: Command, second: Command, pieces: Vec<Vec<u8>>) -> [Run; 2] {

@@ -2,8 +2,8 @@
 //! look for a difference between that mutant and the core; see ../README.md. What is changed is said in scan.rs, which
 //! finds it by rules, and in named.rs.
 //!
-//! `mutants BENCH VERDICT CAPTURE WHY SOURCES PAGE FOLDER [TEXT..]`: the core's programs, the folder of the second program's sources,
-//! the page with the table of mutants that no input could show, and a folder to build in. With texts only the mutants
+//! `mutants BENCH VERDICT CAPTURE WHY LAWFUL SOURCES PAGE FOLDER [TEXT..]`: the core's programs, the folder of the second program's
+//! sources, the page with the table of mutants that no input could show, and a folder to build in. With texts only the mutants
 //! whose file and change hold one of them are tried.
 
 mod equivalents;
@@ -28,15 +28,16 @@ use workshop::{Build, Workshop};
 
 /// Which groups are tried first for a source, as they are made for its rules.
 const FIRST_GROUPS: &[(&str, &[&str])] = &[
-    ("bench.rs", &["lines", "sequence-lines", "port", "identities", "choices", "why", "frames"]),
+    ("bench.rs", &["lines", "sequence-lines", "port", "identities", "choices", "why", "lawful", "frames"]),
     ("capture.rs", &["captures"]),
     ("der.rs", &["der-small", "der-lengths", "der-trees", "der-damage"]),
     ("frame.rs", &["frames"]),
     ("identity.rs", &["identities"]),
+    ("lawful.rs", &["lawful", "lawful-words"]),
     ("lines.rs", &["lines", "sequence-lines", "ends", "replies"]),
-    ("main.rs", &["port", "verdicts", "captures", "why-words"]),
+    ("main.rs", &["port", "verdicts", "captures", "why-words", "lawful-words"]),
     ("message.rs", &["message-checks", "messages", "message-damage", "ends"]),
-    ("offer.rs", &["offer-checks", "lifetimes", "offer-damage", "choices", "why"]),
+    ("offer.rs", &["offer-checks", "lifetimes", "offer-damage", "choices", "why", "lawful"]),
     ("policy.rs", &["books", "choices", "lifetimes", "why"]),
     ("port4500.rs", &["port", "frames"]),
     ("quick.rs", &["ends", "deliveries", "exchanges"]),
@@ -46,14 +47,14 @@ const FIRST_GROUPS: &[(&str, &[&str])] = &[
     ("refusal.rs", &["message-checks", "sequence-table", "books", "replies", "ends", "captures"]),
     ("reply.rs", &["replies", "ends"]),
     ("sequence.rs", &["sequence-packets", "sequence-window", "sequence-table"]),
-    ("verdict.rs", &["verdicts", "why-words"]),
+    ("verdict.rs", &["verdicts", "why-words", "lawful-words"]),
     ("why.rs", &["why", "why-words"]),
     ("wire.rs", &["message-checks", "sequence-packets"]),
     ("write.rs", &["replies", "ends", "deliveries"]),
 ];
 
-/// The sources that none of `second verdict`, `second capture` and `second why` comes to: there their many runs could show
-/// nothing.
+/// The sources that none of `second verdict`, `second capture`, `second why` and `second lawful` comes to: there their many
+/// runs could show nothing.
 const OF_LINES_ALONE: &[&str] =
     &["bench.rs", "lines.rs", "quick.rs", "quick_lines.rs", "quick_messages.rs", "reply.rs", "write.rs"];
 
@@ -63,6 +64,9 @@ const OF_CAPTURES: &[&str] = &["capture.rs", "frame.rs", "port4500.rs", "record.
 /// Those that of these only `second why` comes to.
 const OF_WHYS: &[&str] = &["why.rs"];
 
+/// Those that of these only `second lawful` comes to.
+const OF_LAWFULS: &[&str] = &["lawful.rs"];
+
 /// So many runs are tried with a program that is built soon; one that is still unnoticed is built for all of them.
 const RUNS_OF_A_SOON_BUILD: usize = 12;
 
@@ -71,6 +75,7 @@ struct Request {
     verdict: PathBuf,
     capture: PathBuf,
     why: PathBuf,
+    lawful: PathBuf,
     sources: PathBuf,
     page: PathBuf,
     folder: PathBuf,
@@ -86,16 +91,16 @@ impl Request {
 }
 
 fn request(arguments: &[String]) -> Option<Request> {
-    let [bench, verdict, capture, why, sources, page, folder, texts @ ..] = arguments else { return None };
-    let [bench, verdict, capture, why] = [bench, verdict, capture, why].map(PathBuf::from);
+    let [bench, verdict, capture, why, lawful, sources, page, folder, texts @ ..] = arguments else { return None };
+    let [bench, verdict, capture, why, lawful] = [bench, verdict, capture, why, lawful].map(PathBuf::from);
     let [sources, page, folder] = [sources, page, folder].map(PathBuf::from);
-    Some(Request { bench, verdict, capture, why, sources, page, folder, texts: texts.to_vec() })
+    Some(Request { bench, verdict, capture, why, lawful, sources, page, folder, texts: texts.to_vec() })
 }
 
 fn main() -> ExitCode {
     let arguments: Vec<String> = std::env::args().skip(1).collect();
     let Some(request) = request(&arguments) else {
-        eprintln!("usage: mutants BENCH VERDICT CAPTURE WHY SOURCES PAGE FOLDER [TEXT..]");
+        eprintln!("usage: mutants BENCH VERDICT CAPTURE WHY LAWFUL SOURCES PAGE FOLDER [TEXT..]");
         return ExitCode::from(2);
     };
     match try_all(&request) {
@@ -139,8 +144,8 @@ fn try_all(request: &Request) -> Result<bool, String> {
     stale.iter().for_each(|line| println!("{line}"));
 
     let workshop = Workshop::new(request.folder.clone(), &sources)?;
-    let Request { bench, verdict, capture, why, .. } = request;
-    let mut trier = Trier::new(trials::all([bench, verdict, capture, why])?, workshop)?;
+    let Request { bench, verdict, capture, why, lawful, .. } = request;
+    let mut trier = Trier::new(trials::all([bench, verdict, capture, why, lawful])?, workshop)?;
     let mut log = File::create(request.folder.join("log")).map_err(|error| error.to_string())?;
     let mut tally = Tally { wrong_entries: stale.len(), ..Tally::default() };
     for (source, mutation) in mutants.iter().filter(|(_, mutation)| request.asks_for(mutation)) {
@@ -263,9 +268,10 @@ impl Trier {
         };
         let is_reached = |run: &usize| match self.trials[*run].programs {
             ProgramsOf::Lines | ProgramsOf::LinesAlone => true,
-            ProgramsOf::Verdicts { .. } => ![OF_LINES_ALONE, OF_CAPTURES, OF_WHYS].concat().contains(&file),
-            ProgramsOf::Captures { .. } => ![OF_LINES_ALONE, OF_WHYS].concat().contains(&file),
-            ProgramsOf::Whys { .. } => ![OF_LINES_ALONE, OF_CAPTURES].concat().contains(&file),
+            ProgramsOf::Verdicts { .. } => ![OF_LINES_ALONE, OF_CAPTURES, OF_WHYS, OF_LAWFULS].concat().contains(&file),
+            ProgramsOf::Captures { .. } => ![OF_LINES_ALONE, OF_WHYS, OF_LAWFULS].concat().contains(&file),
+            ProgramsOf::Whys { .. } => ![OF_LINES_ALONE, OF_CAPTURES, OF_LAWFULS].concat().contains(&file),
+            ProgramsOf::Lawfuls { .. } => ![OF_LINES_ALONE, OF_CAPTURES, OF_WHYS].concat().contains(&file),
         };
         let mut order: Vec<usize> = (0..self.trials.len()).filter(is_reached).collect();
         order.sort_by_key(rank);

@@ -7,8 +7,32 @@ use crate::source::Source;
 #[rustfmt::skip]
 const NAMED: &[(&str, &str)] = &[
     ("bench.rs", "«self.lent = Receive::default();→»"),
+    ("bench.rs", "lawful::answer(&offer, &reply, «None→Some(&[0, 0])»)"),
     ("identity.rs", "9 => der::«is_name→is_one_element»(data)"),
     ("identity.rs", "10 => der::«is_one_element→is_name»(data)"),
+    ("lawful.rs", "«let offered = Recorded::new(\"offer\", offer)?;\n    \
+                   let book = book.map(policy::book).transpose();\n    \
+                   let book = book.map_err(|number| refused(number, \"book: cannot be read\".to_string()))?;\
+                   →let book = book.map(policy::book).transpose();\n    \
+                   let book = book.map_err(|number| refused(number, \"book: cannot be read\".to_string()))?;\n    \
+                   let offered = Recorded::new(\"offer\", offer)?;»"),
+    ("lawful.rs", "«let book = book.map_err(|number| refused(number, \"book: cannot be read\".to_string()))?;\n    \
+                   let reply = Recorded::new(\"reply\", reply)?;\
+                   →let reply = Recorded::new(\"reply\", reply)?;\n    \
+                   let book = book.map_err(|number| refused(number, \"book: cannot be read\".to_string()))?;»"),
+    ("lawful.rs", "offer::sets(offered)«.find(|offered| offered[0].number == set)→.next()»"),
+    ("lawful.rs", "offered.transforms()«.find(|offered| offered.number == transform.number)→.next()»"),
+    ("lawful.rs", "«for proposal in reply {\n        \
+                   let (of_set, count) = (of_set(proposal), proposal.transforms().count());\n        \
+                   tell_if(count > 1, || format!(\"{of_set} has {count} transforms\"))?;\n    }\n    \
+                   let mut taken = Vec::new();\n    for (proposal, offered) in reply.iter().zip(offered) {\
+                   →let mut taken = Vec::new();\n    for (proposal, offered) in reply.iter().zip(offered) {\n        \
+                   let (of_set, count) = (of_set(proposal), proposal.transforms().count());\n        \
+                   tell_if(count > 1, || format!(\"{of_set} has {count} transforms\"))?;»"),
+    ("lawful.rs", "offered.id))?;\n«    }\n    for (name, transform, offered) in &taken {\n→»        let differ"),
+    ("lawful.rs", "«transform.attribute_bytes() != offered.attribute_bytes()\
+                   →transform.attribute_bytes().len() != offered.attribute_bytes().len()»"),
+    ("lawful.rs", "choice«.filter(|choice| choice.set == set)→»"),
     ("lines.rs", "«.filter(|&size| size <= LARGEST_ROOM)→»"),
     ("message.rs", "bytes.iter().«all→any»("),
     ("message.rs", "payloads.«iter().any→last().is_some_and»(|before| before.kind == SA)"),

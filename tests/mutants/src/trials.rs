@@ -37,7 +37,7 @@ fn digest(output: &[u8]) -> Digest {
 }
 
 /// All runs with the seed of the ordinary run.
-pub fn all([bench, verdict, capture, why]: [&Path; 4]) -> Result<Vec<Trial>, String> {
+pub fn all([bench, verdict, capture, why, lawful]: [&Path; 5]) -> Result<Vec<Trial>, String> {
     let mut trials = Vec::new();
     for group in groups::ALL {
         let cases = group.cases(DEFAULT_SEED);
@@ -50,8 +50,9 @@ pub fn all([bench, verdict, capture, why]: [&Path; 4]) -> Result<Vec<Trial>, Str
                 ProgramsOf::Verdicts { .. } => verdict,
                 ProgramsOf::Captures { .. } => capture,
                 ProgramsOf::Whys { .. } => why,
+                ProgramsOf::Lawfuls { .. } => lawful,
             });
-            core.args(book.iter().map(|file| &file.0)).args(book_size(case.programs)).stderr(Stdio::null());
+            core.args(book.iter().map(|file| &file.0)).args(sizes(case.programs)).stderr(Stdio::null());
             let Run { mut output, failure } = run(core, &input, PATIENCE);
             if let Some(failure) = failure {
                 return Err(format!("{}: the core failed: {failure}", group.name));
@@ -66,11 +67,12 @@ pub fn all([bench, verdict, capture, why]: [&Path; 4]) -> Result<Vec<Trial>, Str
     Ok(trials)
 }
 
-/// What programs that say why may be told.
-fn book_size(programs: ProgramsOf) -> Option<String> {
+/// What a program is told of the sizes of its inputs.
+fn sizes(programs: ProgramsOf) -> Vec<String> {
     match programs {
-        ProgramsOf::Whys { book_size, .. } => book_size.map(|size| size.to_string()),
-        _ => None,
+        ProgramsOf::Whys { book_size, .. } => book_size.iter().map(usize::to_string).collect(),
+        ProgramsOf::Lawfuls { sizes, .. } => sizes.arguments(),
+        _ => Vec::new(),
     }
 }
 
@@ -84,7 +86,8 @@ impl Trial {
             ProgramsOf::Lines | ProgramsOf::LinesAlone => &mut limited,
             ProgramsOf::Verdicts { .. } => limited.arg("verdict"),
             ProgramsOf::Captures { .. } => limited.arg("capture").args(self.book.iter().map(|file| &file.0)),
-            ProgramsOf::Whys { .. } => limited.arg("why").args(book_size(self.programs)),
+            ProgramsOf::Whys { .. } => limited.arg("why").args(sizes(self.programs)),
+            ProgramsOf::Lawfuls { .. } => limited.arg("lawful").args(sizes(self.programs)),
         };
         let Run { output, failure } = run(limited, &self.input, PATIENCE);
         let unlike = || (digest(&output) != self.answers).then(|| "other answers".to_string());

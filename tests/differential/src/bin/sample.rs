@@ -9,7 +9,7 @@ use std::io::{self, BufWriter, Write};
 /// The groups that try how `bench` takes its lines in.
 const OF_THE_LINE_READER: [&str; 2] = ["lines", "sequence-lines"];
 /// The groups that are put to other programs; some of their cases are lines of other groups once more.
-const OF_OTHER_PROGRAMS: [&str; 3] = ["verdicts", "why-words", "captures"];
+const OF_OTHER_PROGRAMS: [&str; 4] = ["verdicts", "why-words", "lawful-words", "captures"];
 
 fn main() {
     let Some((count, seed)) = request(std::env::args().skip(1)) else {
@@ -124,8 +124,8 @@ mod tests {
         let verbs: BTreeSet<_> = text.lines().filter_map(|line| line.split(' ').next()).collect();
         #[rustfmt::skip]
         let all = [
-            "add", "begin", "book", "choose", "deliver", "der", "frame", "fresh", "identity", "kept", "lent", "loss", "nonce",
-            "packet", "port", "read", "remove", "reply", "room", "send", "state", "tick", "why",
+            "add", "begin", "book", "choose", "deliver", "der", "frame", "fresh", "identity", "kept", "lawful", "lent",
+            "loss", "nonce", "packet", "port", "read", "remove", "reply", "room", "send", "state", "tick", "why",
         ];
         assert_eq!(verbs, BTreeSet::from(all));
     }

@@ -433,56 +433,59 @@ fn spoiled_set(random: &mut Random, line: &Line) -> Set {
     set
 }
 
-/// A set at one place that suits one line by one transform in each proposal. Everything before it is spoiled, and behind
-/// it stands what would suit as well or would not.
 fn planted(random: &mut Random, cases: &mut Cases) {
     for time in 0..15_000 {
-        let protocols = SORTS[time % 3];
-        let mut lines = Vec::new();
-        let line_at = random.below(4);
-        let planted = Line { seconds: 2 + random_seconds(random, 3_598), ..random_line(random, protocols) };
-        // A line before it has other protocols, another mode, or fewer seconds than the transforms have.
-        let lasts = random.between(2, planted.seconds as usize) as u32;
-        for _ in 0..line_at {
-            let fewer = Line { seconds: random.between(1, lasts as usize - 1) as u32, ..planted };
-            let other_mode = Line { mode: planted.mode % 4 + 1, ..planted };
-            let other_sort = if protocols == ESP_ALONE { AH_WITH_ESP } else { ESP_ALONE };
-            let before = [fewer, other_mode, Line { protocols: other_sort, ..planted }];
-            lines.push(if protocols == MAIN { fewer } else { before[random.below(3)] });
-        }
-        lines.push(planted);
-        for _ in 0..random.below(3) {
-            lines.push(if random.once_in(2) { planted } else { random_line(random, protocols) });
-        }
-
-        let set_at = if protocols == MAIN { 0 } else { random.below(4) };
-        let mut sets: Vec<Set> = Vec::new();
-        for _ in 0..set_at {
-            let line = lines[random.below(lines.len())];
-            sets.push(if random.once_in(5) {
-                vec![(AH, vec![suiting(random, &line, AH)])]
-            } else {
-                spoiled_set(random, &line)
-            });
-        }
-        let mut set = set_of(random, &planted, |random, line, protocol| lasting(random, line, protocol, 1));
-        let mut transforms = Vec::new();
-        for (protocol, offered) in &mut set {
-            let at = random.below(4);
-            *offered = (0..at).map(|_| spoiled(random, &planted, *protocol)).collect();
-            offered.push(lasting(random, &planted, *protocol, lasts));
-            for _ in 0..random.below(3) {
-                let again = random.between(lasts as usize, planted.seconds as usize) as u32;
-                offered.push(lasting(random, &planted, *protocol, again));
-            }
-            transforms.push(at);
-        }
-        sets.push(set);
-        for _ in 0..if protocols == MAIN { 0 } else { random.below(3) } {
-            sets.push(set_of(random, &planted, suiting));
-        }
-        add(random, cases, &lines, sets, Some(Place { set: set_at, line: line_at, transforms }));
+        plant(random, cases, SORTS[time % 3]);
     }
+}
+
+/// A set at one place that suits one line by one transform in each proposal. Everything before it is spoiled, and behind
+/// it stands what would suit as well or would not.
+pub fn plant(random: &mut Random, cases: &mut Cases, protocols: &'static [u8]) {
+    let mut lines = Vec::new();
+    let line_at = random.below(4);
+    let planted = Line { seconds: 2 + random_seconds(random, 3_598), ..random_line(random, protocols) };
+    // A line before it has other protocols, another mode, or fewer seconds than the transforms have.
+    let lasts = random.between(2, planted.seconds as usize) as u32;
+    for _ in 0..line_at {
+        let fewer = Line { seconds: random.between(1, lasts as usize - 1) as u32, ..planted };
+        let other_mode = Line { mode: planted.mode % 4 + 1, ..planted };
+        let other_sort = if protocols == ESP_ALONE { AH_WITH_ESP } else { ESP_ALONE };
+        let before = [fewer, other_mode, Line { protocols: other_sort, ..planted }];
+        lines.push(if protocols == MAIN { fewer } else { before[random.below(3)] });
+    }
+    lines.push(planted);
+    for _ in 0..random.below(3) {
+        lines.push(if random.once_in(2) { planted } else { random_line(random, protocols) });
+    }
+
+    let set_at = if protocols == MAIN { 0 } else { random.below(4) };
+    let mut sets: Vec<Set> = Vec::new();
+    for _ in 0..set_at {
+        let line = lines[random.below(lines.len())];
+        sets.push(if random.once_in(5) {
+            vec![(AH, vec![suiting(random, &line, AH)])]
+        } else {
+            spoiled_set(random, &line)
+        });
+    }
+    let mut set = set_of(random, &planted, |random, line, protocol| lasting(random, line, protocol, 1));
+    let mut transforms = Vec::new();
+    for (protocol, offered) in &mut set {
+        let at = random.below(4);
+        *offered = (0..at).map(|_| spoiled(random, &planted, *protocol)).collect();
+        offered.push(lasting(random, &planted, *protocol, lasts));
+        for _ in 0..random.below(3) {
+            let again = random.between(lasts as usize, planted.seconds as usize) as u32;
+            offered.push(lasting(random, &planted, *protocol, again));
+        }
+        transforms.push(at);
+    }
+    sets.push(set);
+    for _ in 0..if protocols == MAIN { 0 } else { random.below(3) } {
+        sets.push(set_of(random, &planted, suiting));
+    }
+    add(random, cases, &lines, sets, Some(Place { set: set_at, line: line_at, transforms }));
 }
 
 /// One set and up to eight lines of its sort: the first whose mode is the same and whose seconds are enough.

@@ -153,8 +153,12 @@ const FORMS: [&str; 2] = ["fixed", "variable"];
 const BETWEEN: &str = "; ";
 
 pub fn occurs(case: &Case, answers: &[String], answer: &str, words: &[&str]) -> bool {
-    let is_said = |word: &&str| case.detail.split(BETWEEN).any(|said| said == *word);
-    answers.first().is_some_and(|given| given.starts_with(answer)) && words.iter().all(is_said)
+    answers.first().is_some_and(|given| given.starts_with(answer)) && says(case, words)
+}
+
+/// Whether the detail of a case has all these words.
+pub fn says(case: &Case, words: &[&str]) -> bool {
+    words.iter().all(|word| case.detail.split(BETWEEN).any(|said| said == *word))
 }
 
 pub fn describe(cases: &mut Cases, exchange: u8, words: &[&str]) {

@@ -179,7 +179,7 @@ fn pairs(random: &mut Random, cases: &mut Cases) {
 }
 
 /// Up to so many of the cases with the same detail.
-fn of_each_detail(made: &[Case], most: usize) -> Vec<&Case> {
+pub fn of_each_detail(made: &[Case], most: usize) -> Vec<&Case> {
     let mut by_detail: BTreeMap<&str, Vec<&Case>> = BTreeMap::new();
     for case in made {
         by_detail.entry(&case.detail).or_default().push(case);
@@ -188,7 +188,7 @@ fn of_each_detail(made: &[Case], most: usize) -> Vec<&Case> {
 }
 
 /// Up to so many, from the first to the last.
-fn spread<Thing>(all: &[Thing], most: usize) -> impl Iterator<Item = &Thing> {
+pub fn spread<Thing>(all: &[Thing], most: usize) -> impl Iterator<Item = &Thing> {
     let count = all.len().min(most);
     (0..count).map(move |at| &all[at * all.len() / count])
 }
