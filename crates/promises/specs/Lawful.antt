@@ -52,6 +52,7 @@ use Rattle.policy_repeats.specs.Repeats.{content, RepeatsOffer, Takes, one, two
 use Rattle.policy_repeats.proofs.RepeatLaws.{nothing-repeats, repeats-nothing, nothing-chosen, chosen-nothing, set-finds, ChoseSet, chose-set, same-count, same-protocols, same-transforms}
 use Rattle.policy_repeats.proofs.Refusals.{refused-first, lawful-nothing, neither-differs, bodies-only, choice-only}
 use Rattle.policy_repeats.proofs.ReplyPasses.{reply-repeats-offer, reply-is-choice}
+use Rattle.promises.specs.Choice.{choice-is}
 
 -- ---- what is recorded
 
@@ -183,6 +184,18 @@ module _ (book offer reply : Bytes) (o : HasSa offer) (r : HasSa reply) where
     the-book : LawfulBook true book
     the-book e = (main, quick, lawful)
 
+    -- what is chosen of the offer's body is what `choose` answers to book and message
+    pub chosen-of-both : chooseFrom (o .exchange) book (body o) ≡ choice book offer
+    chosen-of-both = sym (choice-is book offer (record {
+      main = main;
+      quick = quick;
+      exchange = o .exchange;
+      count = o .count;
+      lawful = lawful;
+      readable = o .readable;
+      offered = o .some;
+    }))
+
     -- with a book it is accepted exactly if it is the choice
     pub accepted-choice : answered true book offer reply ≡ accepted → IsChoice (o .exchange) book (body o) (body r)
     unfolding compared
@@ -201,7 +214,9 @@ module _ (book offer reply : Bytes) (o : HasSa offer) (r : HasSa reply) where
     other-fourteen q other =
         ⊎-elim
         (λ e. absurd (other (nothing-chosen (o .exchange) (r .exchange) book (body o) (body r) (body-reads o) (body-reads r) q e)))
-        (λ e. ap lawfulAnswer (is-compared true book offer reply o r the-book ∙ ap (λ (d : Difference). lawfulBy (d orElse choiceDiffers (body r) (chooseFrom (o .exchange) book (body o)))) (repeats q) ∙ e))
+        (λ e.
+        let by-choice : Difference → Lawfulness = λ d. lawfulBy (d orElse choiceDiffers (body r) (chooseFrom (o .exchange) book (body o))) in
+        ap lawfulAnswer (is-compared true book offer reply o r the-book ∙ ap by-choice (repeats q) ∙ e))
         (choice-only (body r) (chooseFrom (o .exchange) book (body o)))
 
     pub nothing-chosen-fourteen : RepeatsOffer (body o) (body r) → chooseFrom (o .exchange) book (body o) ≡ choices.Refused 14 →
