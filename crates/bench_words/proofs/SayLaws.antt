@@ -133,12 +133,14 @@ module _ (l m : List ℕ) (at r : ℕ) where
   unfolding verdictText
   refused-said told n e p = rw e p
 
-  pub accepted-said : (told : Verdict) → told ≡ Accepted → Said l at (verdictText Accepted) r m → Said l at (verdictText told) r m
-  accepted-said told e p = rw e p
-
   pub one-said : (ts : Transforms) (t : TransformNumber) → ts ≡ One t → Said l at (numberText (t .0)) r m → Said l at (transformsText ts) r m
   unfolding transformsText
   one-said ts t e p = rw e p
+
+pub accepted-said : (l m n : List ℕ) (at r s : ℕ) (told : Verdict) (rise : ℕ) → told ≡ Accepted rise →
+    Said l at (97 ∷ 99 ∷ 99 ∷ 101 ∷ 112 ∷ 116 ∷ 101 ∷ 100 ∷ []) r m → Said m r (numberText rise) s n → Said l at (verdictText told) s n
+unfolding verdictText
+accepted-said l m n at r s told rise e p q = rw e (said-on l m n at r s _ (numberText rise) p q)
 
 pub two-said : (l m n : List ℕ) (at r s : ℕ) (ts : Transforms) (t u : TransformNumber) → ts ≡ Two t u → Said l at (numberText (t .0)) r m →
     Said m r (numberText (u .0)) s n → Said l at (transformsText ts) s n

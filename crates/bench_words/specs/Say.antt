@@ -50,9 +50,9 @@ refusedText n = (114 ∷ 101 ∷ 102 ∷ 117 ∷ 115 ∷ 101 ∷ 100 ∷ []) ++ 
 abbrev pub badLineText : Bytes
 badLineText = 98 ∷ 97 ∷ 100 ∷ 32 ∷ 108 ∷ 105 ∷ 110 ∷ 101 ∷ []
 
--- `accepted`, or the refusal
+-- `accepted` and the rise, or the refusal
 unfoldable pub verdictText : (told : Verdict) → Bytes
-verdictText Accepted = 97 ∷ 99 ∷ 99 ∷ 101 ∷ 112 ∷ 116 ∷ 101 ∷ 100 ∷ []
+verdictText (Accepted rise) = (97 ∷ 99 ∷ 99 ∷ 101 ∷ 112 ∷ 116 ∷ 101 ∷ 100 ∷ []) ++ numberText rise
 verdictText (Refused n) = refusedText n
 
 -- `loss` and the line's three numbers

@@ -86,7 +86,10 @@ pub fn verdict(out: &mut [u8], said: usize, told: Verdict) -> usize
     ensures { λ r. ⌜ Said (now (out .entry)) said (verdictText told) r (now (out .exit)) ⌝ }
 {
     match told {
-        Verdict::Accepted => append(out, said, b"accepted"),
+        Verdict::Accepted(rise) => {
+            let said = append(out, said, b"accepted");
+            number(out, said, rise)
+        }
         Verdict::Refused(n) => refused(out, said, n),
     }
 }

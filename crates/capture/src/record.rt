@@ -138,7 +138,7 @@ fn refusal(listed: Listed) -> u16 {
 
 fn refusal_of(verdict: Verdict) -> u16 {
     match verdict {
-        Verdict::Accepted => 0,
+        Verdict::Accepted(_) => 0,
         Verdict::Refused(number) => number,
     }
 }

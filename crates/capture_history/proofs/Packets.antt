@@ -57,7 +57,7 @@ read-by protocol s =
 
 -- what a record's step says of a number: it is accepted, or refused with a number that is not 11
 data Says : Verdict → Type 0 where
-  says-accepted : Says Accepted
+  says-accepted : {rise : ℕ} → Says (Accepted rise)
   says-refused : {n : ℕ} → eqb n 0 ≡ false → eqb n 11 ≡ false → Says (Refused n)
 
 says : (r : Receive) (number : ℕ) (integrity : Bool) → Says (judged r number integrity .verdict)
@@ -85,12 +85,12 @@ adding t key =
 
 eleven : (v : Verdict) → isEleven v ≡ true → v ≡ Refused 11
 eleven (Refused n) h = ap Refused (eqb-true n 11 h)
-eleven Accepted h = clash h
+eleven (Accepted rise) h = clash h
 
 eleven-number : (v : Verdict) → eqb (verdictAnswer v .number) 11 ≡ isEleven v
 unfolding verdictAnswer
 eleven-number (Refused n) = refl
-eleven-number Accepted = refl
+eleven-number (Accepted rise) = refl
 
 -- a number shown to a new life is not answered by 11
 new-not-eleven : (number : ℕ) → eqb (rightNumber [] number true .number) 11 ≡ false
@@ -124,14 +124,14 @@ module _ (destination protocol : ℕ) (s : Bytes) where
 
     -- an answer that stays: no key has to be added for it
     pub data Stays : Verdict × Table → Type 0 where
-      accepts-it : {u : Table} → answered t showing ≡ (done (1 ∷ []), u) → read protocol s ≡ Packets.Read (spiOf protocol s) (numberOf protocol s) →
-          ltb (length s) (leastBytes protocol) ≡ false → Stays (Accepted, u)
+      accepts-it : {rise : ℕ} {u : Table} → answered t showing ≡ (done (rise ∷ []), u) →
+          read protocol s ≡ Packets.Read (spiOf protocol s) (numberOf protocol s) → ltb (length s) (leastBytes protocol) ≡ false → Stays (Accepted rise, u)
       refuses-it : {n : ℕ} {u : Table} → answered t showing ≡ (refused n, u) → eqb n 0 ≡ false → eqb n 11 ≡ false → Stays (Refused n, u)
 
     stays-judged : {v : Verdict} {u : Table} → Says v → packet t destination protocol true s ≡ (v, u) →
         read protocol s ≡ Packets.Read (spiOf protocol s) (numberOf protocol s) → ltb (length s) (leastBytes protocol) ≡ false → Stays (v, u)
     unfolding answered verdictAnswer
-    stays-judged {u = u} says-accepted is r l = accepts-it {u = u} (rw is) r l
+    stays-judged {u = u} (says-accepted {rise = rise}) is r l = accepts-it {rise = rise} {u = u} (rw is) r l
     stays-judged {u = u} (says-refused {n = n} h k) is r l = refuses-it {n = n} {u = u} (rw is) h k
 
     stays-read : {p : Packet} → Reads protocol s p → read protocol s ≡ p → isEleven (packetRead t destination protocol true p .0) ≡ false →

@@ -116,16 +116,17 @@ module _ (addresses : Addresses) (protocol : ℕ) (s : Bytes) where
   line-verdict verdict later = by-test (ltb (length s) (leastBytes protocol)) (λ e. rw e) (λ e. rw e)
 
   line-accepted : read protocol s ≡ Packets.Read (spiOf protocol s) (numberOf protocol s) → ltb (length s) (leastBytes protocol) ≡ false →
-      (key : Key) (before : List ℕ) →
-      everAfter (deedFor key (record { call = showing; answer = done (1 ∷ []) })) before
-      ≡ acceptedLine key (listedPacket addresses protocol s Accepted) before
+      (rise : ℕ) (key : Key) (before : List ℕ) →
+      everAfter (deedFor key (record { call = showing; answer = done (rise ∷ []) })) before
+      ≡ acceptedLine key (listedPacket addresses protocol s (Accepted rise)) before
   unfolding listedPacket History.keyOf
-  line-accepted reading long key before = by-test (same own key) (λ e. rw (reading, long) (rw e)) (λ e. rw (reading, long) (rw e))
+  line-accepted reading long rise key before = by-test (same own key) (λ e. rw (reading, long) (rw e)) (λ e. rw (reading, long) (rw e))
 
   stays-comes : {t : Table} {r : Verdict × Table} → Stays (addresses .destination) protocol s t r →
       Comes t (showing ∷ []) (listedPacket addresses protocol s (r .0)) (r .1)
   unfolding verdictAnswer
-  stays-comes (accepts-it is reading long) = last is (line-accepted reading long) (λ later. sym (line-verdict Accepted later))
+  stays-comes (accepts-it {rise = rise} is reading long) =
+      last is (line-accepted reading long rise) (λ later. sym (line-verdict (Accepted rise) later))
   stays-comes (refuses-it {n = n} is z e) =
       last is (λ key before. undone showing n z key before ∙ sym (line-short n key before)) (λ later. rw e (sym (line-verdict (Refused n) later)))
 

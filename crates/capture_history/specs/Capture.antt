@@ -82,7 +82,7 @@ tableAfter t (r ∷ records) = tableAfter (listed t (r .0) (r .1) .1) records
 
 -- the numbers that lines say were accepted of one key, the last first, behind those before
 abbrev pub acceptedLine : (key : Key) (line : Listed) (before : List ℕ) → List ℕ
-acceptedLine key (Packet addresses protocol spi number Verdicts.Accepted) before =
+acceptedLine key (Packet addresses protocol spi number (Verdicts.Accepted rise)) before =
     if same (record { destination = addresses .destination; protocol = protocol; spi = spi }) key then number ∷ before else before
 acceptedLine key (Packet addresses protocol spi number (Verdicts.Refused n)) before = before
 acceptedLine key (ShortPacket addresses protocol verdict) before = before

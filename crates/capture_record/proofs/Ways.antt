@@ -57,8 +57,8 @@ module _ (verdict : Verdict) where
   pub eleven-refused : (number : ℕ) → verdict ≡ Verdicts.Refused number → eqb number 11 ≡ isEleven verdict
   eleven-refused number e = rw e
 
-  pub eleven-accepted : verdict ≡ Verdicts.Accepted → false ≡ isEleven verdict
-  eleven-accepted e = rw e
+  pub eleven-accepted : (rise : ℕ) → verdict ≡ Verdicts.Accepted rise → false ≡ isEleven verdict
+  eleven-accepted rise e = rw e
 
 module _ (t : Table) (destination protocol : ℕ) (s : List ℕ) where
   module _ (adding : Outcome) where

@@ -60,7 +60,7 @@ addedFirst (Outcomes.Done, t) destination protocol s = packet t destination prot
 -- "Where 11 would stand (the packet reads, and its key has no entry)"
 abbrev pub isEleven : (verdict : Verdict) → Bool
 isEleven (Verdicts.Refused number) = eqb number 11
-isEleven Verdicts.Accepted = false
+isEleven (Verdicts.Accepted rise) = false
 
 -- "To the table, with the IP destination, integrity taken as yes"
 unfoldable pub shown : (t : Table) (destination protocol : ℕ) (s : Bytes) → Verdict × Table

@@ -92,7 +92,7 @@ fn is_eleven(verdict: Verdict) -> bool
 {
     match verdict {
         Verdict::Refused(number) => number == 11,
-        Verdict::Accepted => false,
+        Verdict::Accepted(_) => false,
     }
 }
 

@@ -24,10 +24,10 @@ message = replicate 16 0 ++ (1 ∷ []) ++ replicate 13 0 ++ (0 ∷ 92 ∷ [])
 abbrev fromTo : Bytes
 fromTo = 49 ∷ 48 ∷ 46 ∷ 48 ∷ 46 ∷ 48 ∷ 46 ∷ 49 ∷ 32 ∷ 62 ∷ 32 ∷ 49 ∷ 48 ∷ 46 ∷ 48 ∷ 46 ∷ 48 ∷ 46 ∷ 50 ∷ 32 ∷ []
 
--- `10.0.0.1 > 10.0.0.2 ESP 00001000 number 7 accepted`
-esp-accepted : whatText (Listings.Packet between 3 4096 7 Verdicts.Accepted) [] ≡
+-- `10.0.0.1 > 10.0.0.2 ESP 00001000 number 7 accepted 2`
+esp-accepted : whatText (Listings.Packet between 3 4096 7 (Verdicts.Accepted 2)) [] ≡
     fromTo ++ (69 ∷ 83 ∷ 80 ∷ 32 ∷ 48 ∷ 48 ∷ 48 ∷ 48 ∷ 49 ∷ 48 ∷ 48 ∷ 48 ∷ 32 ∷ 110 ∷ 117 ∷ 109 ∷ 98 ∷ 101 ∷ 114 ∷ 32 ∷ 55 ∷ 32 ∷ 97 ∷ 99 ∷ 99 ∷
-    101 ∷ 112 ∷ 116 ∷ 101 ∷ 100 ∷ [])
+    101 ∷ 112 ∷ 116 ∷ 101 ∷ 100 ∷ 32 ∷ 50 ∷ [])
 unfolding whatText namedText verdictText digitsText
 esp-accepted = refl
 

@@ -117,7 +117,7 @@ shortPacketText addresses protocol verdict = namedText addresses protocol ++ ver
 abbrev pub spiText : (spi number : ℕ) → Bytes
 spiText spi number = hexDigits spi ++ countedText (32 ∷ 110 ∷ 117 ∷ 109 ∷ 98 ∷ 101 ∷ 114 ∷ []) number  -- ` number`
 
--- `SRC > DST AH HHHHHHHH number N accepted`, or `refused N` in its place
+-- `SRC > DST AH HHHHHHHH number N accepted RISE`, or `refused N` in its place
 abbrev pub packetText : (addresses : Addresses) (protocol spi number : ℕ) (verdict : Verdict) → Bytes
 packetText addresses protocol spi number verdict = namedText addresses protocol ++ spiText spi number ++ (32 ∷ []) ++ verdictText verdict
 

@@ -18,9 +18,9 @@ use Rattle.exports_record.specs.Listings.{listedGiven}
 -- ---- a packet's verdict
 
 module _ (verdict : Verdict) where
-  pub verdict-accepted : verdict ≡ Verdicts.Accepted → 0 ∷ 1 ∷ [] ≡ words 2 (verdictValues verdict)
+  pub verdict-accepted : (rise : ℕ) → verdict ≡ Verdicts.Accepted rise → 0 ∷ rise ∷ [] ≡ words 2 (verdictValues verdict)
   unfolding words verdictAnswer
-  verdict-accepted is = rw is
+  verdict-accepted rise is = rw is
 
   pub verdict-refused : (number : ℕ) → verdict ≡ Verdicts.Refused number → number ∷ 0 ∷ [] ≡ words 2 (verdictValues verdict)
   unfolding words verdictAnswer
@@ -31,14 +31,14 @@ short-ends : (verdict : Verdict) (addresses : Addresses) (protocol : ℕ) →
     10 ∷ addressValues addresses (protocol ∷ getD (words 2 (verdictValues verdict)) 0 0 ∷ getD (words 2 (verdictValues verdict)) 1 0 ∷ 0 ∷ 0 ∷ [])
     ≡ words 8 (listedAnswer (ShortPacket addresses protocol verdict) .values)
 unfolding words verdictAnswer listedAnswer
-short-ends Verdicts.Accepted addresses protocol = refl
+short-ends (Verdicts.Accepted rise) addresses protocol = refl
 short-ends (Verdicts.Refused number) addresses protocol = refl
 
 packet-ends : (verdict : Verdict) (addresses : Addresses) (protocol spi number : ℕ) →
     11 ∷ addressValues addresses (protocol ∷ spi ∷ number ∷ getD (words 2 (verdictValues verdict)) 0 0 ∷ getD (words 2 (verdictValues verdict)) 1 0 ∷ [])
     ≡ words 8 (listedAnswer (Packet addresses protocol spi number verdict) .values)
 unfolding words verdictAnswer listedAnswer
-packet-ends Verdicts.Accepted addresses protocol spi number = refl
+packet-ends (Verdicts.Accepted rise) addresses protocol spi number = refl
 packet-ends (Verdicts.Refused refusal) addresses protocol spi number = refl
 
 module _ (verdict : Verdict) (v : List ℕ) (is : v ≡ words 2 (verdictValues verdict)) (addresses : Addresses) (protocol : ℕ) where

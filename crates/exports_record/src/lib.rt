@@ -32,7 +32,7 @@ fn verdict_words(verdict: Verdict) -> [u64; 2]
     ensures { λ r. ⌜ r ≡ words 2 (verdictValues verdict) ⌝ }
 {
     match verdict {
-        Verdict::Accepted => [0, 1],
+        Verdict::Accepted(rise) => [0, rise],
         Verdict::Refused(number) => [number as u64, 0],
     }
 }

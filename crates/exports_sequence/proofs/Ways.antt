@@ -20,16 +20,16 @@ use Rattle.sequence_table.specs.declared.table.Counted.the-variants as Counts
 use Rattle.sequence_table.specs.Table.{Table, added, removed, nextToSend, loss, outcomeAnswer, sendingAnswer, countedAnswer}
 use Rattle.exports_sequence.specs.Records.{stepped, lineWords, outcomeGiven, verdictGiven, sendingGiven}
 
--- ---- a number
+-- ---- a verdict, and an outcome's number
 
-module _ (verdict : Verdict) where
-  pub accepted-number : verdict ≡ Verdicts.Accepted → 0 ≡ verdictAnswer verdict .number
-  unfolding verdictAnswer
-  accepted-number is = rw is
+module _ (verdict : Verdict) (out : List ℕ) where
+  pub accepted-given : (rise : ℕ) → verdict ≡ Verdicts.Accepted rise → given 1 (verdictAnswer verdict) out ≡ (0, rise ∷ [])
+  unfolding given left words verdictAnswer
+  accepted-given rise is = rw is
 
-  pub refused-number : (number : ℕ) → verdict ≡ Verdicts.Refused number → number ≡ verdictAnswer verdict .number
-  unfolding verdictAnswer
-  refused-number number is = rw is
+  pub refused-given : (number : ℕ) → verdict ≡ Verdicts.Refused number → given 1 (verdictAnswer verdict) out ≡ (number, out)
+  unfolding given left verdictAnswer
+  refused-given number is = rw is
 
 module _ (outcome : Outcome) where
   pub done-number : outcome ≡ Outcomes.Done → 0 ≡ outcomeAnswer outcome .number
@@ -43,20 +43,21 @@ module _ (outcome : Outcome) where
 -- ---- a number and what was lent
 
 module _ (before said : Receive) (same : before ≡ said) where
-  pub stepped-is : (number : ℕ) (integrity : Bool) (j : Judged) → j ≡ judged before number integrity → (r : ℕ) →
-      r ≡ verdictAnswer (j .verdict) .number → stepped (judged said number integrity) ≡ (r, j .receive .highest ∷ j .receive .window ∷ [])
+  pub stepped-is : (number : ℕ) (integrity : Bool) (j : Judged) → j ≡ judged before number integrity → (out : List ℕ) (r : ℕ) (after : List ℕ) →
+      given 1 (verdictAnswer (j .verdict)) out ≡ (r, after) →
+      stepped (judged said number integrity) out ≡ ((r, after), j .receive .highest ∷ j .receive .window ∷ [])
   unfolding stepped
-  stepped-is number integrity j is r answers = rw (← same, ← is, answers)
+  stepped-is number integrity j is out r after gives = rw (← same, ← is, gives)
 
   pub line-given : (line : LossLine) → line ≡ lossLine before → (ws : List ℕ) → ws ≡ lineWords line → (out : List ℕ) →
       given 3 (countedAnswer (Counts.Line (lossLine said))) out ≡ (0, ws)
   unfolding given left words countedAnswer
   line-given line is ws are out = rw (are, is, same)
 
-pub packet-given : (said : Verdict × Table) (verdict : Verdict) (after : Table) → said ≡ (verdict, after) → (r : ℕ) →
-    r ≡ verdictAnswer verdict .number → verdictGiven said ≡ (r, after)
+pub packet-given : (said : Verdict × Table) (verdict : Verdict) (after : Table) → said ≡ (verdict, after) → (out : List ℕ) (r : ℕ)
+    (given-out : List ℕ) → given 1 (verdictAnswer verdict) out ≡ (r, given-out) → verdictGiven said out ≡ ((r, given-out), after)
 unfolding verdictGiven
-packet-given said verdict after is r answers = rw (is, answers)
+packet-given said verdict after is out r given-out gives = rw (is, gives)
 
 module _ (t : Table) (key said : Key) (same : key ≡ said) where
   module _ (outcome : Outcome) (after : Table) (r : ℕ) (answers : r ≡ outcomeAnswer outcome .number) where

@@ -23,9 +23,9 @@ receiveOf words = record { highest = getD words 0 0; window = getD words 1 0 }
 abbrev pub receiveWords : (r : Receive) → List ℕ
 receiveWords r = r .highest ∷ r .window ∷ []
 
--- a step: its verdict's number, and the words after it
-unfoldable pub stepped : (j : Judged) → ℕ × List ℕ
-stepped j = (verdictAnswer (j .verdict) .number, receiveWords (j .receive))
+-- a step: its verdict's number and the word of `out`, the rise, and the words after it
+unfoldable pub stepped : (j : Judged) (out : List ℕ) → (ℕ × List ℕ) × List ℕ
+stepped j out = (given 1 (verdictAnswer (j .verdict)) out, receiveWords (j .receive))
 
 -- a loss line as the words of `out`
 abbrev pub lineWords : (line : LossLine) → List ℕ
@@ -40,9 +40,9 @@ keyOf destination protocol spi = record { destination = destination; protocol = 
 unfoldable pub outcomeGiven : (answered : Outcome × Table) → ℕ × Table
 outcomeGiven (outcome, after) = (outcomeAnswer outcome .number, after)
 
-unfoldable pub verdictGiven : (answered : Verdict × Table) → ℕ × Table
-verdictGiven (verdict, after) = (verdictAnswer verdict .number, after)
+-- its number and the word of `out`, the rise or the number for sending, and the table after it
+unfoldable pub verdictGiven : (answered : Verdict × Table) (out : List ℕ) → (ℕ × List ℕ) × Table
+verdictGiven (verdict, after) out = (given 1 (verdictAnswer verdict) out, after)
 
--- its number and the word of `out`, and the table after it
 unfoldable pub sendingGiven : (answered : Sending × Table) (out : List ℕ) → (ℕ × List ℕ) × Table
 sendingGiven (sending, after) out = (given 1 (sendingAnswer sending) out, after)

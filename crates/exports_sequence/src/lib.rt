@@ -26,11 +26,14 @@ fn receive_of(words: &[u64; 2]) -> Receive
     }
 }
 
-fn verdict_number(verdict: Verdict) -> u32
-    ensures { λ r. ⌜ r ≡ verdictAnswer verdict .number ⌝ }
+fn give_verdict(verdict: Verdict, out: &mut [u64; 1]) -> u32
+    ensures { λ r. ⌜ given 1 (verdictAnswer verdict) (now (out .entry)) ≡ (r, now (out .exit)) ⌝ }
 {
     match verdict {
-        Verdict::Accepted => 0,
+        Verdict::Accepted(rise) => {
+            *out = [rise];
+            0
+        }
         Verdict::Refused(number) => number as u32,
     }
 }
@@ -60,16 +63,21 @@ fn line_words(line: LossLine) -> [u64; 3]
     [line.highest, line.span, line.count as u64]
 }
 
-// A packet's number arrives at a lent record.
+// A packet's number arrives at a lent record; `out` is for the rise.
 #[no_mangle]
-pub extern "C" fn tallowbrim_step(receive: &mut [u64; 2], number: u32, integrity: bool) -> u32
-    ensures { λ r. ⌜ stepped (judged (receiveOf (now (receive .entry))) number integrity) ≡ (r, now (receive .exit)) ⌝ }
+pub extern "C" fn tallowbrim_step(
+    receive: &mut [u64; 2],
+    number: u32,
+    integrity: bool,
+    out: &mut [u64; 1],
+) -> u32
+    ensures { λ r. ⌜ stepped (judged (receiveOf (now (receive .entry))) number integrity) (now (out .entry)) ≡ ((r, now (out .exit)), now (receive .exit)) ⌝ }
 {
     let j = step_lent(receive_of(receive), number, integrity);
     let after = j.receive;
     let verdict = j.verdict;
     *receive = [after.highest, after.window];
-    verdict_number(verdict)
+    give_verdict(verdict, out)
 }
 
 // The loss line of a lent record.
@@ -105,7 +113,7 @@ pub extern "C" fn tallowbrim_remove(
     outcome_number(outcome)
 }
 
-// A packet to a destination; integrity is what the caller says of it.
+// A packet to a destination; integrity is what the caller says of it, and `out` is for the rise.
 #[no_mangle]
 pub extern "C" fn tallowbrim_packet(
     table: &mut Table,
@@ -113,11 +121,12 @@ pub extern "C" fn tallowbrim_packet(
     protocol: u8,
     integrity: bool,
     s: &[u8],
+    out: &mut [u64; 1],
 ) -> u32
-    ensures { λ r. ⌜ verdictGiven (packet (now (table .entry)) destination protocol integrity (now (s .entry))) ≡ (r, now (table .exit)) ⌝ }
+    ensures { λ r. ⌜ verdictGiven (packet (now (table .entry)) destination protocol integrity (now (s .entry))) (now (out .entry)) ≡ ((r, now (out .exit)), now (table .exit)) ⌝ }
 {
     let verdict = table::packet(table, destination, protocol, integrity, s);
-    verdict_number(verdict)
+    give_verdict(verdict, out)
 }
 
 // The next number for a packet that is sent.

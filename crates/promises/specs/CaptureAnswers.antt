@@ -130,9 +130,9 @@ frame-meant (Frames.Esp addresses packet) = refl
 pub frame-own : (x y : Frame) → frameAnswer x ≡ frameAnswer y → x ≡ y
 frame-own x y h = sym (frame-meant x) ∙ ap frameMeant h ∙ frame-meant y
 
--- a verdict's number stands at a place; what is accepted has a value behind it
+-- a verdict's number stands before a place; what is accepted has its rise there
 abbrev verdictMeant : (a : Answer) (place : ℕ) → Verdict
-verdictMeant a place = if leb (length (a .values)) place then Verdicts.Refused (value a (place - 1)) else Verdicts.Accepted
+verdictMeant a place = if leb (length (a .values)) place then Verdicts.Refused (value a (place - 1)) else Verdicts.Accepted (value a place)
 
 abbrev listedMeant : (a : Answer) → Listed
 listedMeant a =
@@ -159,9 +159,9 @@ listed-meant (Lines.Keepalive addresses) = refl
 listed-meant (Lines.Enciphered addresses exchange id) = refl
 listed-meant (Lines.Read addresses exchange count) = refl
 listed-meant (Lines.Refused addresses number) = refl
-listed-meant (Lines.ShortPacket addresses protocol Verdicts.Accepted) = refl
+listed-meant (Lines.ShortPacket addresses protocol (Verdicts.Accepted rise)) = refl
 listed-meant (Lines.ShortPacket addresses protocol (Verdicts.Refused number)) = refl
-listed-meant (Lines.Packet addresses protocol spi number Verdicts.Accepted) = refl
+listed-meant (Lines.Packet addresses protocol spi number (Verdicts.Accepted rise)) = refl
 listed-meant (Lines.Packet addresses protocol spi number (Verdicts.Refused n)) = refl
 
 pub listed-own : (x y : Listed) → listedAnswer x ≡ listedAnswer y → x ≡ y

@@ -73,11 +73,11 @@ unfoldable pub twoTags : Bytes
 twoTags = 0x88 ∷ 0xa8 ∷ 0x00 ∷ 0x64 ∷ 0x81 ∷ 0x00 ∷ 0x00 ∷ 0x07 ∷ []
 
 -- what is listed of records from the empty table, each with its original length and its bytes
-abbrev listed : (records : List (ℕ × Bytes)) → List Answer
+abbrev pub listed : (records : List (ℕ × Bytes)) → List Answer
 listed records = map listing.listedAnswer (captures.lines tables.empty records)
 
 -- 10.0.0.1 and 10.0.0.2
-abbrev between : (values : List ℕ) → List ℕ
+abbrev pub between : (values : List ℕ) → List ℕ
 between values = 0x0a000001 ∷ 0x0a000002 ∷ values
 
 unfoldable pub table : List Example

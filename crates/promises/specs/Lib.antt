@@ -29,9 +29,11 @@ pub mod LawfulAnswers
 pub mod LawfulExamples
 pub mod SequenceAnswers
 pub mod Sequence
+pub mod Rises
 pub mod Captures
 pub mod CaptureAnswers
 pub mod CaptureExamples
+pub mod RiseExamples
 pub mod Quick
 pub mod KeptBuffers
 pub mod Library

@@ -32,7 +32,7 @@ use Rattle.policy_why.specs.declared.Why.the-variants as whys
 use Rattle.policy_why.specs.declared.Offer.{Offer}
 use Rattle.policy_why.specs.declared.Offer.the-variants as offers
 use Rattle.policy_why.specs.declared.Places.{Places}
-use Rattle.sequence_record.specs.Receive.{judged}
+use Rattle.sequence_record.specs.Receive.{judged, verdictAnswer}
 use Rattle.sequence_record.specs.declared.Receive.{Receive}
 use Rattle.sequence_table.specs.Table.{Table, rooms, words as tableWords, entryAt, putEntry, added, removed, packet, nextToSend, loss, sendingAnswer, countedAnswer}
 use Rattle.sequence_table.specs.declared.table.Key.{Key}
@@ -61,6 +61,7 @@ use Rattle.quick_begin.specs.Begin.{begun}
 use Rattle.quick_tick.specs.Tick.{ticked}
 use Rattle.quick_deliver.specs.Deliver.{delivered}
 use Rattle.promises.specs.Quick.{Unchanged, begin-refused, tick-refused, delivery-refused}
+use Rattle.promises.specs.Rises.{refused-carries-nothing}
 use Rattle.exports_end.specs.Ends.{progressOf, endOf, progressBytes, endBytes}
 use Rattle.exports_end.proofs.EndLaws.{HeldProgress, HeldEnd, progress-again}
 use Rattle.exports_end.proofs.EndLaws as EndLaws
@@ -228,10 +229,14 @@ module _ (t : Table) where
   unfolding outcomeGiven answered
   remove-refused key h = refused-nothing t (removes key) h
 
-  pub packet-refused : (destination protocol : ℕ) (integrity : Bool) (s : Bytes) →
-      eqb (verdictGiven (packet t destination protocol integrity s) .0) 0 ≡ false → verdictGiven (packet t destination protocol integrity s) .1 ≡ t
-  unfolding verdictGiven answered
-  packet-refused destination protocol integrity s h = refused-nothing t (shows destination protocol integrity s) h
+  pub packet-refused : (destination protocol : ℕ) (integrity : Bool) (s : Bytes) (out : List ℕ) →
+      isDone (verdictAnswer (packet t destination protocol integrity s .0)) ≡ false →
+      verdictGiven (packet t destination protocol integrity s) out ≡ ((verdictAnswer (packet t destination protocol integrity s .0) .number, out), t)
+  unfolding verdictGiven answered given left
+  packet-refused destination protocol integrity s out h =
+      let kept : packet t destination protocol integrity s .1 ≡ t = refused-nothing t (shows destination protocol integrity s) h in
+      let none = refused-carries-nothing (packet t destination protocol integrity s .0) h in
+      rw (kept, none)
 
   pub send-refused : (key : Key) (out : List ℕ) → isDone (sendingAnswer (nextToSend t key .0)) ≡ false →
       sendingGiven (nextToSend t key) out ≡ ((sendingAnswer (nextToSend t key .0) .number, out), t)
@@ -241,11 +246,16 @@ module _ (t : Table) where
       let none = of-sending (nextToSend t key .0) h in
       rw (kept, none)
 
-pub step-refused : (receive : List ℕ) → length receive ≡ 2 → (number : ℕ) (integrity : Bool) →
-    eqb (stepped (judged (receiveOf receive) number integrity) .0) 0 ≡ false → stepped (judged (receiveOf receive) number integrity) .1 ≡ receive
-unfolding stepped
-step-refused receive two number integrity h =
-    ap receiveWords (judged-refused (receiveOf receive) number integrity h) ∙ RecordLaws.words-again receive two
+pub step-refused : (receive : List ℕ) → length receive ≡ 2 → (number : ℕ) (integrity : Bool) (out : List ℕ) →
+    isDone (verdictAnswer (judged (receiveOf receive) number integrity .verdict)) ≡ false →
+    stepped (judged (receiveOf receive) number integrity) out
+    ≡ ((verdictAnswer (judged (receiveOf receive) number integrity .verdict) .number, out), receive)
+unfolding stepped given left
+step-refused receive two number integrity out h =
+    let kept : receiveWords (judged (receiveOf receive) number integrity .receive) ≡ receive =
+    ap receiveWords (judged-refused (receiveOf receive) number integrity h) ∙ RecordLaws.words-again receive two in
+    let none = refused-carries-nothing (judged (receiveOf receive) number integrity .verdict) h in
+    rw (kept, none)
 
 -- ---- an end and its buffers
 

@@ -65,11 +65,11 @@ table =
     ∷ record { defined = told (isName (0x30 ∷ 0x00 ∷ [])) ∷ []; printed = told true ∷ [] }
     -- M8 `30 80` isn't
     ∷ record { defined = told (isName (0x30 ∷ 0x80 ∷ [])) ∷ []; printed = told false ∷ [] }
-    -- M9 a fresh entry: 0 is 8197, 1 accepted, 1 again 8194
+    -- M9 a fresh entry: 0 is 8197, 1 accepted, 1 again 8194. What is accepted carries its rise (document 02, Four)
     ∷ record { defined = answersTo (0 ∷ 1 ∷ 1 ∷ []); printed = refused 8197 ∷ done (1 ∷ []) ∷ refused 8194 ∷ [] }
     -- M10 after 64 alone, 1 is accepted; after 65 alone, 8197
-    ∷ record { defined = answersTo (64 ∷ 1 ∷ []); printed = done (1 ∷ []) ∷ done (1 ∷ []) ∷ [] }
-    ∷ record { defined = answersTo (65 ∷ 1 ∷ []); printed = done (1 ∷ []) ∷ refused 8197 ∷ [] }
+    ∷ record { defined = answersTo (64 ∷ 1 ∷ []); printed = done (64 ∷ []) ∷ done (0 ∷ []) ∷ [] }
+    ∷ record { defined = answersTo (65 ∷ 1 ∷ []); printed = done (65 ∷ []) ∷ refused 8197 ∷ [] }
     -- M11 accepted 1, 2, 4: loss line 4, 4, 3
     ∷ record { defined = lossOf (1 ∷ 2 ∷ 4 ∷ []) ∷ []; printed = done (4 ∷ 4 ∷ 3 ∷ []) ∷ [] }
     -- M12 message 3 has 76 bytes; the number that came with the end is 0

@@ -203,7 +203,9 @@ pub exports-quick-tallowbrim-nonce :
     tallowbrim-nonce-reads.Post
 exports-quick-tallowbrim-nonce κs arguments x y s t p q = sym p ∙ q
 
-pub exports-sequence-tallowbrim-step : OneAnswer 1 tallowbrim-step-kinds.ps tallowbrim-step-kinds.r resultAndBuffer tallowbrim-step-reads.Post
+pub exports-sequence-tallowbrim-step :
+    OneAnswer 2 tallowbrim-step-kinds.ps tallowbrim-step-kinds.r {A = (ℕ × List ℕ) × List ℕ} (λ κs x s. ((x, now (s .1 .1 .1 .0)), now (s .0)))
+    tallowbrim-step-reads.Post
 exports-sequence-tallowbrim-step κs arguments x y s t p q = sym p ∙ q
 
 pub exports-sequence-tallowbrim-loss-line :
@@ -217,7 +219,9 @@ exports-sequence-tallowbrim-add κs arguments x y s t p q = sym p ∙ q
 pub exports-sequence-tallowbrim-remove : OneAnswer 1 tallowbrim-remove-kinds.ps tallowbrim-remove-kinds.r resultAndBuffer tallowbrim-remove-reads.Post
 exports-sequence-tallowbrim-remove κs arguments x y s t p q = sym p ∙ q
 
-pub exports-sequence-tallowbrim-packet : OneAnswer 2 tallowbrim-packet-kinds.ps tallowbrim-packet-kinds.r resultAndBuffer tallowbrim-packet-reads.Post
+pub exports-sequence-tallowbrim-packet :
+    OneAnswer 3 tallowbrim-packet-kinds.ps tallowbrim-packet-kinds.r {A = (ℕ × List ℕ) × List ℕ} (λ κs x s. ((x, now (s .1 .1 .1 .1 .1 .0)), now (s .0)))
+    tallowbrim-packet-reads.Post
 exports-sequence-tallowbrim-packet κs arguments x y s t p q = sym p ∙ q
 
 pub exports-sequence-tallowbrim-send :

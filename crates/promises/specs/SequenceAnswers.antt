@@ -23,9 +23,9 @@ parts a b e = (ap (λ (x : Answer). x .number) e, ap (λ (x : Answer). x .values
 
 pub verdict-own : (x y : Verdict) → verdictAnswer x ≡ verdictAnswer y → x ≡ y
 unfolding verdictAnswer
-verdict-own Verdicts.Accepted Verdicts.Accepted h = refl
-verdict-own Verdicts.Accepted (Verdicts.Refused m) h = let e = parts _ _ h in never (cc)
-verdict-own (Verdicts.Refused n) Verdicts.Accepted h = let e = parts _ _ h in never (cc)
+verdict-own (Verdicts.Accepted rise) (Verdicts.Accepted rise′) h = let e = parts _ _ h in cc
+verdict-own (Verdicts.Accepted rise) (Verdicts.Refused m) h = let e = parts _ _ h in never (cc)
+verdict-own (Verdicts.Refused n) (Verdicts.Accepted rise′) h = let e = parts _ _ h in never (cc)
 verdict-own (Verdicts.Refused n) (Verdicts.Refused m) h = let e = parts _ _ h in cc
 
 pub packet-own : (x y : Packet) → packetAnswer x ≡ packetAnswer y → x ≡ y

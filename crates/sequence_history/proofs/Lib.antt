@@ -4,3 +4,4 @@ pub mod Ways
 mod Calls
 pub mod Runs
 pub mod Keys
+pub mod Rises

@@ -123,19 +123,23 @@ one-step r h s n integrity =
     (λ b.
     let again = before-member r h s n b in
     by-test (member n h) (λ m. rw (top, b, again, m) (refl, s))
-    (λ m. by-test integrity (λ w. rw (top, b, again, m, w) (refl, takes r h s n (live n (highest h) b .0) (live n (highest h) b .1) m))
+    (λ m.
+    by-test integrity
+    (λ w.
+    rw (top, b, again, m, w)
+    (ap (λ (x : ℕ). done ((max n x - x) ∷ [])) (s .top), takes r h s n (live n (highest h) b .0) (live n (highest h) b .1) m))
     (λ w. rw (top, b, again, m, w) (refl, s))))
 
 -- a number that is right to accept was not accepted before
 pub accepts-new : (numbers : List ℕ) (n : ℕ) (integrity : Bool) → isDone (rightNumber numbers n integrity) ≡ true → member n numbers ≡ false
 unfolding rightNumber
-accepts-new numbers n integrity = of (eqb n 0 || leb (n + 64) (highest numbers)) (member n numbers) integrity
+accepts-new numbers n integrity = of (highest (n ∷ numbers) - highest numbers) (eqb n 0 || leb (n + 64) (highest numbers)) (member n numbers) integrity
   where
-    of : (b again integrity : Bool) →
-        isDone (if b then refused 8197 else if again then refused 8194 else if not integrity then refused 24 else done (1 ∷ [])) ≡ true → again ≡ false
-    of true again integrity h = clash h
-    of false true integrity h = clash h
-    of false false integrity h = refl
+    of : (rise : ℕ) (b again integrity : Bool) →
+        isDone (if b then refused 8197 else if again then refused 8194 else if not integrity then refused 24 else done (rise ∷ [])) ≡ true → again ≡ false
+    of rise true again integrity h = clash h
+    of rise false true integrity h = clash h
+    of rise false false integrity h = refl
 
 pub starts : Shows newReceive []
 starts = record { top = refl; fits = lit< tt; bits = λ k l. zero-bit k; no-zero = refl }
@@ -203,7 +207,7 @@ lent-shows ((integrity, n) ∷ numbers) r h s d =
     rw (q .0) (lent-shows numbers (judged r n integrity .receive) now (q .1) distinct)
 
 module _ (numbers : List (Bool × ℕ)) where
-  lent-shown : Shows (lentAfter newReceive numbers) (lentAccepted numbers)
+  pub lent-shown : Shows (lentAfter newReceive numbers) (lentAccepted numbers)
   lent-shown = lent-shows numbers newReceive [] starts tt .0
 
   -- the next answer is right of the numbers accepted before

@@ -77,7 +77,7 @@ right-from : (t : Table) (key : Key) → length t ≡ rooms * words → rooms �
 right-from t key long absent calls = right-on key calls t [] long (keeps-nothing t key absent) (unfold RightFor in tt)
 
 -- an event is nothing to the key, or a deed of a call of its own that is done
-by-deed : (key : Key) (e : Event) (A : Deed → Type 0) → A none → (isDone (e .answer) ≡ true → keyOf (e .call) ≡ key → A (deed (e .call) (e .answer))) →
+pub by-deed : (key : Key) (e : Event) (A : Deed → Type 0) → A none → (isDone (e .answer) ≡ true → keyOf (e .call) ≡ key → A (deed (e .call) (e .answer))) →
     A (deedFor key e)
 by-deed key e A nothing its =
     by-test (isDone (e .answer))
@@ -192,7 +192,7 @@ module _ (calls : List Call) (key : Key) where
   abbrev history : List Event
   history = answeredAll empty [] calls
 
-  from-empty : RightFor key history
+  pub from-empty : RightFor key history
   from-empty = right-from empty key empty-long (omega (arith, empty-absent key)) calls
 
   -- No sequence number is accepted twice in one life of an SA.

@@ -114,6 +114,21 @@ unfoldable pub handed : (key : Key) (past : List Event) → List ℕ
 handed key [] = []
 handed key (e ∷ past) = handedAfter (deedFor key e) (handed key past)
 
+-- document 02, Four: the rises that the acceptances of this life were answered with, the last first
+abbrev pub riseGiven : (a : Answer) → ℕ
+riseGiven a = getD (a .values) 0 0
+
+abbrev pub risesAfter : (d : Deed) (a : Answer) (before : List ℕ) → List ℕ
+risesAfter begins a before = []
+risesAfter ends a before = []
+risesAfter (accepts number) a before = riseGiven a ∷ before
+risesAfter (hands number) a before = before
+risesAfter none a before = before
+
+unfoldable pub rises : (key : Key) (past : List Event) → List ℕ
+rises key [] = []
+rises key (e ∷ past) = risesAfter (deedFor key e) (e .answer) (rises key past)
+
 -- the lives that run: one more with each adding that was done, one less with each removing
 abbrev pub entriesAfter : (d : Deed) (before : ℕ) → ℕ
 entriesAfter begins before = before + 1
@@ -149,13 +164,14 @@ sum f (suc n) = sum f n + f n
 abbrev pub recent : (numbers : List ℕ) → ℕ
 recent numbers = sum (λ k. one (member (highest numbers - k) numbers)) (min (highest numbers) 64)
 
--- "number 0, or number plus 64 not above H: 8197; accepted before: 8194; integrity no: 24; else accepted"
+-- "number 0, or number plus 64 not above H: 8197; accepted before: 8194; integrity no: 24; else accepted"; document 02, Four: "by how much the
+-- highest number rose", which is H after it less H before it
 unfoldable pub rightNumber : (numbers : List ℕ) (number : ℕ) (integrity : Bool) → Answer
 rightNumber numbers number integrity =
     if eqb number 0 || leb (number + 64) (highest numbers) then refused 8197
     else if member number numbers then refused 8194
     else if not integrity then refused 24
-    else done (1 ∷ [])
+    else done ((highest (number ∷ numbers) - highest numbers) ∷ [])
 
 unfoldable pub rightPacket : (past : List Event) (destination protocol : ℕ) (integrity : Bool) (p : Packet) → Answer
 rightPacket past destination protocol integrity (Refused number) = refused number
@@ -232,6 +248,25 @@ unfoldable pub RightFor : (key : Key) (past : List Event) → Type 0
 RightFor key [] = Unit {0}
 RightFor key (e ∷ past) = (keyOf (e .call) ≡ key → isAdding (e .call) ≡ false → e .answer ≡ right past (e .call)) × RightFor key past
 
+abbrev pub isShowing : (c : Call) → Bool
+isShowing (adds key) = false
+isShowing (removes key) = false
+isShowing (shows destination protocol integrity s) = true
+isShowing (sends key) = false
+isShowing (asks key) = false
+
+-- each packet of the key that was accepted was answered with H after it less H before it
+unfoldable pub RisesFor : (key : Key) (past : List Event) → Type 0
+RisesFor key [] = Unit {0}
+RisesFor key (e ∷ past) =
+    (isShowing (e .call) ≡ true → isDone (e .answer) ≡ true → keyOf (e .call) ≡ key →
+    e .answer ≡ done ((highest (accepted key (e ∷ past)) - highest (accepted key past)) ∷ []))
+    × RisesFor key past
+
+abbrev pub total : (numbers : List ℕ) → ℕ
+total [] = 0
+total (n ∷ numbers) = n + total numbers
+
 -- packets of the key, each with what is said of its integrity, and the numbers that they carry
 pub data Carries (key : Key) : List (Bool × Bytes) → List (Bool × ℕ) → Type 0 where
   no-more : Carries key [] []
@@ -267,6 +302,11 @@ acceptedBy (a ∷ answers) (n ∷ numbers) before = acceptedBy answers numbers (
 -- those of a lent record that was new before these steps
 abbrev pub lentAccepted : (numbers : List (Bool × ℕ)) → List ℕ
 lentAccepted numbers = acceptedBy (lentAnswers newReceive numbers) numbers []
+
+-- the rises that answers to a lent record's steps carry
+unfoldable pub risesBy : (answers : List Answer) → List ℕ
+risesBy [] = []
+risesBy (a ∷ answers) = if isDone a then riseGiven a ∷ risesBy answers else risesBy answers
 
 -- ---- numbers shown to a fresh entry
 

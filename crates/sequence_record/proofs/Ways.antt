@@ -9,7 +9,7 @@ use lib.Count.{ones}
 use lib.Pow.{pow-lt}
 use borrow.Author.Tests.{lt-ltb, le-ltb, le-leb, lt-leb, ne-eqb, eqb-false, leb-false}
 use Rattle.wire_read.proofs.Tests.{neither}
-use Rattle.sequence_record.specs.Receive.{bit, behind, acceptedBefore, shifted, withNumber, judged, lossLine}
+use Rattle.sequence_record.specs.Receive.{bit, behind, acceptedBefore, shifted, rise, withNumber, judged, lossLine}
 use Rattle.sequence_record.specs.declared.Receive.{Receive}
 use Rattle.sequence_record.specs.declared.Verdict.the-variants.{Accepted, Refused}
 use Rattle.sequence_record.proofs.Bits.{set-lt, shifted-lt, shifted-low}
@@ -49,9 +49,13 @@ module _ (r : Receive) (n : ℕ) (integrity : Bool) where
       above-with-number : record { highest = n; window = s + 1 } ≡ withNumber r n
       above-with-number = rw (es, max-eq-left (le-of-lt l), sub-self n)
 
-      pub above-accepted : not integrity ≡ false → record { receive = record { highest = n; window = s + 1 }; verdict = Accepted } ≡ judged r n integrity
+      above-rise : n - r .highest ≡ rise r n
+      above-rise = rw (max-eq-left (le-of-lt l))
+
+      pub above-accepted : not integrity ≡ false →
+          record { receive = record { highest = n; window = s + 1 }; verdict = Accepted (n - r .highest) } ≡ judged r n integrity
       unfolding judged
-      above-accepted h = rw (ahead, unseen, h, above-with-number)
+      above-accepted h = rw (ahead, unseen, h, above-with-number, above-rise)
 
   -- a number that is not above it
   module _ (l : n ≤ r .highest) (b : Bool) (eb : b ≡ behind (r .highest) n) where
@@ -79,14 +83,17 @@ module _ (r : Receive) (n : ℕ) (integrity : Bool) where
           pub late-fits : r .window + 1 * 2 ^ (r .highest - n) % 2 ^ 64 < 2 ^ 64
           late-fits = rw (one-shl (r .highest - n) within) (set-lt 64 (r .highest - n) (r .window) within f clear)
 
+          late-rise : 0 ≡ rise r n
+          late-rise = rw (max-eq-right l, sub-self (r .highest))
+
           late-with-number : record { highest = r .highest; window = r .window + 1 * 2 ^ (r .highest - n) % 2 ^ 64 } ≡ withNumber r n
           late-with-number = rw (max-eq-right l, sub-self (r .highest), one-shl (r .highest - n) within, mul-one (r .window), mod-eq-of-lt f)
 
           pub late-accepted : not integrity ≡ false →
-              record { receive = record { highest = r .highest; window = r .window + 1 * 2 ^ (r .highest - n) % 2 ^ 64 }; verdict = Accepted }
+              record { receive = record { highest = r .highest; window = r .window + 1 * 2 ^ (r .highest - n) % 2 ^ 64 }; verdict = Accepted 0 }
               ≡ judged r n integrity
           unfolding judged
-          late-accepted h = rw (← eb, live, le-leb n (r .highest) l, unmarked, h, late-with-number)
+          late-accepted h = rw (← eb, live, le-leb n (r .highest) l, unmarked, h, late-with-number, late-rise)
 
 pub line-read : (r : Receive) (s : ℕ) → s ≡ min (r .highest) 64 → record { highest = r .highest; span = s; count = ones (r .window) } ≡ lossLine r
 line-read r s e = rw e

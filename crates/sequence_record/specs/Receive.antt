@@ -33,22 +33,26 @@ acceptedBefore r number = leb number (r .highest) && eqb (bit (r .window) (r .hi
 abbrev pub shifted : (window places : ℕ) → ℕ
 shifted window places = if ltb places 64 then window * 2 ^ places % 2 ^ 64 else 0
 
+-- document 02, Four: "by how much the highest number rose, 0 if it didn't"
+abbrev pub rise : (r : Receive) (number : ℕ) → ℕ
+rise r number = max number (r .highest) - r .highest
+
 -- the record with a number accepted: the window moves so far as the highest number rises, and then the number's bit is set
 abbrev pub withNumber : (r : Receive) (number : ℕ) → Receive
 withNumber r number =
     record {
       highest = max number (r .highest);
-      window = shifted (r .window) (max number (r .highest) - r .highest) + 2 ^ (max number (r .highest) - number);
+      window = shifted (r .window) (rise r number) + 2 ^ (max number (r .highest) - number);
     }
 
 -- "number 0, or number plus 64 not above H: 8197; accepted before: 8194; integrity no: 24; else accepted"; integrity is what the caller
--- says of it
+-- says of it. Document 02, Four: an accepted packet's verdict carries the rise, "refused packets carry nothing"
 unfoldable pub judged : (r : Receive) (number : ℕ) (integrity : Bool) → Judged
 judged r number integrity =
     if behind (r .highest) number then record { receive = r; verdict = Refused 8197 }
     else if acceptedBefore r number then record { receive = r; verdict = Refused 8194 }
     else if not integrity then record { receive = r; verdict = Refused 24 }
-    else record { receive = withNumber r number; verdict = Accepted }
+    else record { receive = withNumber r number; verdict = Accepted (rise r number) }
 
 -- "A loss line gives H, the lesser of H and 64, and how many of those last numbers were accepted": ones counted in the window
 abbrev pub lossLine : (r : Receive) → LossLine
@@ -56,5 +60,5 @@ lossLine r = record { highest = r .highest; span = min (r .highest) 64; count = 
 
 -- the paper's number and values for each case
 unfoldable pub verdictAnswer : (verdict : Verdict) → Answer
-verdictAnswer Accepted = done (1 ∷ [])
+verdictAnswer (Accepted rise) = done (rise ∷ [])
 verdictAnswer (Refused number) = refused number

@@ -12,7 +12,8 @@ pub struct Receive {
 }
 
 pub enum Verdict {
-    Accepted,
+    // By how much the highest number rose, 0 where it did not.
+    Accepted(u64),
     Refused(u16),
 }
 
@@ -65,12 +66,13 @@ fn step_above(r: Receive, number: u32, integrity: bool) -> Judged
             verdict: Verdict::Refused(24),
         };
     }
+    let rise = n - highest;
     Judged {
         receive: Receive {
             highest: n,
-            window: shifted(window, n - highest) + 1,
+            window: shifted(window, rise) + 1,
         },
-        verdict: Verdict::Accepted,
+        verdict: Verdict::Accepted(rise),
     }
 }
 
@@ -106,7 +108,7 @@ fn step_not_above(r: Receive, number: u32, integrity: bool) -> Judged
             highest,
             window: window + (1 << place),
         },
-        verdict: Verdict::Accepted,
+        verdict: Verdict::Accepted(0),
     }
 }
 

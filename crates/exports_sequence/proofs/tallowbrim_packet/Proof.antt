@@ -1,4 +1,4 @@
--- Verdict and table are what `packet` says, and the number is the verdict's.
+-- Verdict and table are what `packet` says, and the verdict is given.
 use borrow.Author.Needs.{needs}
 use Rattle.exports_sequence.proofs.Ways.{packet-given}
 use Rattle.exports_sequence.proofs.tallowbrim_packet.Statement.{statement}

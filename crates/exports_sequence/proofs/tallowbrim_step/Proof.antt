@@ -1,4 +1,4 @@
--- The step is what `judged` says, and the number is its verdict's.
+-- The step is what `judged` says, and its verdict is given.
 use borrow.Author.Needs.{needs}
 use Rattle.exports_sequence.proofs.Ways.{stepped-is}
 use Rattle.exports_sequence.proofs.tallowbrim_step.Statement.{statement}
