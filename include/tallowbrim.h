@@ -257,8 +257,12 @@ uint32_t tallowbrim_nonce(
 
 /* ---- Sequence numbers ------------------------------------------------------------------------------------------------------- */
 
-/* A packet's number arrives at a lent record; the caller says whether its integrity holds. Answers 0, accepted, or 8197, 8194, 24. */
-uint32_t tallowbrim_step(tallowbrim_receive *receive, uint32_t number, bool integrity);
+/*
+ * A packet's number arrives at a lent record; the caller says whether its integrity holds.
+ * out: by how much the highest accepted number rose, 0 where it did not.
+ * Answers 0, accepted, or 8197, 8194, 24.
+ */
+uint32_t tallowbrim_step(tallowbrim_receive *receive, uint32_t number, bool integrity, uint64_t out[1]);
 
 /*
  * The loss line of a lent record.
@@ -273,10 +277,15 @@ uint32_t tallowbrim_add(tallowbrim_table *table, uint32_t destination, uint8_t p
 /* A life ends. Answers 0, or 11. */
 uint32_t tallowbrim_remove(tallowbrim_table *table, uint32_t destination, uint8_t protocol, uint32_t spi);
 
-/* An AH or ESP packet arrives; the caller says whether its integrity holds. Answers 0, accepted, or 10, 16, 11, 8197, 8194, 24. */
+/*
+ * An AH or ESP packet arrives; the caller says whether its integrity holds.
+ * out: as in tallowbrim_step, of the packet's life.
+ * Answers 0, accepted, or 10, 16, 11, 8197, 8194, 24.
+ */
 uint32_t tallowbrim_packet(
     tallowbrim_table *table, uint32_t destination, uint8_t protocol, bool integrity,
-    const uint8_t *packet, size_t length);
+    const uint8_t *packet, size_t length,
+    uint64_t out[1]);
 
 /*
  * The next number for a packet that is sent.
@@ -343,7 +352,7 @@ uint32_t tallowbrim_carried(uint32_t original, const uint8_t *record, size_t len
  *   8 a message that reads: exchange, how many payloads
  *   9 a message or datagram that does not: the refusal
  *   10 a packet too short for an SPI and a number: protocol, the refusal
- *   11 a packet: protocol, SPI, number, the refusal or 0, and behind a 0 a 1
+ *   11 a packet: protocol, SPI, number, the refusal or 0, and behind a 0 by how much the highest number rose
  * Answers 0, whatever it is.
  */
 uint32_t tallowbrim_record(tallowbrim_table *table, uint32_t original, const uint8_t *record, size_t length, uint64_t out[8]);

@@ -196,10 +196,10 @@ NATIVE(nonce, jboolean initiator, jbyteArray initiators, jbyteArray responders, 
 
 /* ---- Sequence numbers ------------------------------------------------------------------------------------------------------- */
 
-NATIVE(step, jlongArray receive, jlong number, jboolean integrity)
+NATIVE(step, jlongArray receive, jlong number, jboolean integrity, jlongArray out)
 {
-    LEND(CHANGED(receive));
-    return CALL(tallowbrim_step(WHOLE(0), (uint32_t)number, integrity));
+    LEND(CHANGED(receive), CHANGED(out));
+    return CALL(tallowbrim_step(WHOLE(0), (uint32_t)number, integrity, WHOLE(1)));
 }
 
 NATIVE(lossLine, jlongArray receive, jlongArray out)
@@ -220,10 +220,10 @@ NATIVE(remove, jlongArray table, jlong destination, jint protocol, jlong spi)
     return CALL(tallowbrim_remove(WHOLE(0), (uint32_t)destination, (uint8_t)protocol, (uint32_t)spi));
 }
 
-NATIVE(packet, jlongArray table, jlong destination, jint protocol, jboolean integrity, jbyteArray packet)
+NATIVE(packet, jlongArray table, jlong destination, jint protocol, jboolean integrity, jbyteArray packet, jlongArray out)
 {
-    LEND(CHANGED(table), READ(packet));
-    return CALL(tallowbrim_packet(WHOLE(0), (uint32_t)destination, (uint8_t)protocol, integrity, BYTES(1)));
+    LEND(CHANGED(table), READ(packet), CHANGED(out));
+    return CALL(tallowbrim_packet(WHOLE(0), (uint32_t)destination, (uint8_t)protocol, integrity, BYTES(1), WHOLE(2)));
 }
 
 NATIVE(send, jlongArray table, jlong destination, jint protocol, jlong spi, jlongArray out)

@@ -1,7 +1,5 @@
 package tallowbrim;
 
-import java.util.OptionalInt;
-
 /** What is listed of a record of a capture. */
 public sealed interface Listed {
     record CutShort() implements Listed {}
@@ -27,6 +25,5 @@ public sealed interface Listed {
     /** A packet too short for an SPI and a number. */
     record ShortPacket(Addresses addresses, int protocol, int refusal) implements Listed {}
 
-    /** A packet; with no refusal it is accepted. */
-    record Packet(Addresses addresses, int protocol, long spi, long number, OptionalInt refusal) implements Listed {}
+    record Packet(Addresses addresses, int protocol, long spi, long number, Verdict verdict) implements Listed {}
 }

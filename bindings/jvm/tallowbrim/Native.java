@@ -36,11 +36,11 @@ final class Native {
     static native int nonce(boolean initiator, byte[] initiators, byte[] responders, byte[] nonce, long[] out);
 
     // Sequence numbers
-    static native int step(long[] receive, long number, boolean integrity);
+    static native int step(long[] receive, long number, boolean integrity, long[] out);
     static native int lossLine(long[] receive, long[] out);
     static native int add(long[] table, long destination, int protocol, long spi);
     static native int remove(long[] table, long destination, int protocol, long spi);
-    static native int packet(long[] table, long destination, int protocol, boolean integrity, byte[] packet);
+    static native int packet(long[] table, long destination, int protocol, boolean integrity, byte[] packet, long[] out);
     static native int send(long[] table, long destination, int protocol, long spi, long[] out);
     static native int loss(long[] table, long destination, int protocol, long spi, long[] out);
 

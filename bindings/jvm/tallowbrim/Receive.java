@@ -20,9 +20,14 @@ public final class Receive {
         return words.clone();
     }
 
-    /** A packet's number arrives, its integrity holding or not: accepted, where it is not refused. */
-    public void step(long number, boolean integrity) throws Refusal {
-        Lent.done(Native.step(words, Lent.number32(number), integrity));
+    /**
+     * A packet's number arrives, its integrity holding or not: accepted, where it is not refused. Gives by how much the highest accepted
+     * number rose, 0 where it did not.
+     */
+    public long step(long number, boolean integrity) throws Refusal {
+        long[] out = new long[1];
+        Lent.done(Native.step(words, Lent.number32(number), integrity, out));
+        return out[0];
     }
 
     public LossLine lossLine() {

@@ -1,7 +1,5 @@
 package tallowbrim;
 
-import java.util.OptionalInt;
-
 /** 64 SA entries, by IPv4 destination, protocol (2 AH, 3 ESP) and SPI. For one thread at a time. */
 public final class Table {
     private static final int WORDS = 384;
@@ -32,9 +30,14 @@ public final class Table {
         Lent.done(Native.remove(words, Lent.number32(destination), Lent.number8(protocol), Lent.number32(spi)));
     }
 
-    /** An AH or ESP packet arrives, its integrity holding or not: accepted, where it is not refused. */
-    public void packet(long destination, int protocol, boolean integrity, byte[] packet) throws Refusal {
-        Lent.done(Native.packet(words, Lent.number32(destination), Lent.number8(protocol), integrity, Lent.bytes(packet)));
+    /**
+     * An AH or ESP packet arrives, its integrity holding or not: accepted, where it is not refused. Gives what {@link Receive#step} does,
+     * of the packet's life.
+     */
+    public long packet(long destination, int protocol, boolean integrity, byte[] packet) throws Refusal {
+        long[] out = new long[1];
+        Lent.done(Native.packet(words, Lent.number32(destination), Lent.number8(protocol), integrity, Lent.bytes(packet), out));
+        return out[0];
     }
 
     /** The next number for a packet that is sent. */
@@ -71,12 +74,12 @@ public final class Table {
             case 8 -> new Listed.Read(addresses, new Message(first, second));
             case 9 -> new Listed.Refused(addresses, first);
             case 10 -> new Listed.ShortPacket(addresses, first, second);
-            case 11 -> new Listed.Packet(addresses, first, out[4], out[5], refusal((int) out[6]));
+            case 11 -> new Listed.Packet(addresses, first, out[4], out[5], verdict((int) out[6], out[7]));
             default -> throw Lent.unknown(out[0]);
         };
     }
 
-    private static OptionalInt refusal(int number) {
-        return number == 0 ? OptionalInt.empty() : OptionalInt.of(number);
+    private static Verdict verdict(int refusal, long rise) {
+        return refusal == 0 ? new Verdict.Accepted(rise) : new Verdict.Refused(refusal);
     }
 }

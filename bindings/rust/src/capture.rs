@@ -194,8 +194,8 @@ pub enum Listed {
     Refused(Addresses, Refusal),
     /// An AH or ESP packet too short for an SPI and a number.
     ShortPacket { addresses: Addresses, protocol: u8, refusal: Refusal },
-    /// An AH or ESP packet, accepted or not.
-    Packet { addresses: Addresses, protocol: u8, spi: u32, number: u32, verdict: Result<(), Refusal> },
+    /// An AH or ESP packet, with its verdict as [`Table::packet`] gives it.
+    Packet { addresses: Addresses, protocol: u8, spi: u32, number: u32, verdict: Result<u64, Refusal> },
 }
 
 /// A record that had `original` bytes into a table: its packets are judged as by a receiver that takes every packet's integrity for
@@ -205,7 +205,7 @@ pub fn record(table: &mut Table, original: u32, record: &[u8]) -> Listed {
     always_done(unsafe { raw::tallowbrim_record(&mut table.0, original, record.as_ptr(), record.len(), &mut out) });
     let [what, source, destination, values @ ..] = out;
     let addresses = Addresses::new(source, destination);
-    let [first, second, number, judged, _] = values;
+    let [first, second, number, judged, rise] = values;
     match what {
         1 => Listed::CutShort,
         2 => Listed::NotIpv4,
@@ -222,7 +222,7 @@ pub fn record(table: &mut Table, original: u32, record: &[u8]) -> Listed {
             protocol: small(first),
             spi: small(second),
             number: small(number),
-            verdict: done(small(judged)),
+            verdict: done(small(judged)).map(|()| rise),
         },
         _ => unreachable!("the core answered {out:?}"),
     }

@@ -137,7 +137,7 @@ extern "C" {
         out: &mut [u64; 1],
     ) -> u32;
 
-    pub fn tallowbrim_step(receive: &mut [u64; RECEIVE], number: u32, integrity: bool) -> u32;
+    pub fn tallowbrim_step(receive: &mut [u64; RECEIVE], number: u32, integrity: bool, out: &mut [u64; 1]) -> u32;
     pub fn tallowbrim_loss_line(receive: &[u64; RECEIVE], out: &mut [u64; 3]) -> u32;
     pub fn tallowbrim_add(table: &mut [u64; TABLE], destination: u32, protocol: u8, spi: u32) -> u32;
     pub fn tallowbrim_remove(table: &mut [u64; TABLE], destination: u32, protocol: u8, spi: u32) -> u32;
@@ -148,6 +148,7 @@ extern "C" {
         integrity: bool,
         packet: *const u8,
         length: usize,
+        out: &mut [u64; 1],
     ) -> u32;
     pub fn tallowbrim_send(
         table: &mut [u64; TABLE],

@@ -31,9 +31,12 @@ impl Receive {
         Receive::default()
     }
 
-    /// A packet's number arrives; the caller says whether its integrity holds. Refused with 8197, 8194 and 24.
-    pub fn step(&mut self, number: u32, integrity: bool) -> Result<(), Refusal> {
-        done(unsafe { raw::tallowbrim_step(&mut self.0, number, integrity) })
+    /// A packet's number arrives; the caller says whether its integrity holds. Gives by how much the highest accepted number
+    /// rose, 0 where it did not. Refused with 8197, 8194 and 24.
+    pub fn step(&mut self, number: u32, integrity: bool) -> Result<u64, Refusal> {
+        let mut out = [0; 1];
+        done(unsafe { raw::tallowbrim_step(&mut self.0, number, integrity, &mut out) })?;
+        Ok(out[0])
     }
 
     /// The loss line of the life.
@@ -81,18 +84,28 @@ impl Table {
         done(unsafe { raw::tallowbrim_remove(&mut self.0, key.destination.into(), key.protocol, key.spi) })
     }
 
-    /// An AH or ESP packet arrives; the caller says whether its integrity holds. Refused with 10, 16, 11, 8197, 8194 and 24.
+    /// An AH or ESP packet arrives; the caller says whether its integrity holds. Gives what [`Receive::step`] does, of the
+    /// packet's life. Refused with 10, 16, 11, 8197, 8194 and 24.
     pub fn packet(
         &mut self,
         destination: Ipv4Addr,
         protocol: u8,
         integrity: bool,
         packet: &[u8],
-    ) -> Result<(), Refusal> {
-        let destination = destination.into();
+    ) -> Result<u64, Refusal> {
+        let mut out = [0; 1];
         done(unsafe {
-            raw::tallowbrim_packet(&mut self.0, destination, protocol, integrity, packet.as_ptr(), packet.len())
-        })
+            raw::tallowbrim_packet(
+                &mut self.0,
+                destination.into(),
+                protocol,
+                integrity,
+                packet.as_ptr(),
+                packet.len(),
+                &mut out,
+            )
+        })?;
+        Ok(out[0])
     }
 
     /// The next number for a packet that is sent. Refused with 11 and 8198.

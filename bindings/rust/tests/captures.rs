@@ -23,7 +23,8 @@ fn records_are_as_the_sample_lists_them() {
         let bytes = &behind[..captured.into()];
         let listed = record(&mut table, original, bytes);
         assert_eq!(listed == Listed::CutShort, carried(original, bytes) == Carried::CutShort, "{line}");
-        assert_eq!(matches!(listed, Listed::Packet { verdict: Ok(()), .. }), line.ends_with(" accepted"), "{line}");
+        let rise = if let Listed::Packet { verdict, .. } = listed { verdict.ok() } else { None };
+        assert_eq!(rise, line.split_once(" accepted ").map(|(_, rise)| rise.parse().unwrap()), "{line}");
         at += RECORD_HEADER + usize::from(captured);
     }
     assert_eq!(at, FILE.len());

@@ -363,13 +363,13 @@ static bool life(void)
 
 static bool packet(void)
 {
-    uint64_t destination;
+    uint64_t destination, out[1];
     uint32_t protocol;
     bool integrity;
     if (!read_fixed(words[1], 4, &destination) || !read_number(words[2], UINT8_MAX, &protocol) ||
         !read_yes(words[3], &integrity) || !read_bytes(words[4], &first))
         return false;
-    put_answer(tallowbrim_packet(&table, destination, protocol, integrity, first.at, first.length), "accepted", NULL, 0);
+    put_answer(tallowbrim_packet(&table, destination, protocol, integrity, first.at, first.length, out), "accepted", out, 1);
     return true;
 }
 
@@ -390,10 +390,11 @@ static bool lent_new_or_loss(void)
 static bool lent_step(void)
 {
     uint32_t number;
+    uint64_t out[1];
     bool integrity;
     if (!read_number(words[1], UINT32_MAX, &number) || !read_yes(words[2], &integrity))
         return false;
-    put_answer(tallowbrim_step(&lent, number, integrity), "accepted", NULL, 0);
+    put_answer(tallowbrim_step(&lent, number, integrity, out), "accepted", out, 1);
     return true;
 }
 
@@ -437,7 +438,7 @@ static void put_listed(uint32_t original, const uint64_t out[8])
     case 10: printf("%s refused %" PRIu64, protocol, out[4]); break;
     default:
         printf("%s %08" PRIx64 " number %" PRIu64 " ", protocol, out[4], out[5]);
-        put_answer(out[6], "accepted", NULL, 0);
+        put_answer(out[6], "accepted", out + 7, 1);
     }
 }
 

@@ -299,9 +299,7 @@ public final class Lines {
 
     private String lent(String[] w) throws Refusal {
         if (w.length == 3) {
-            long number = number(w[1], LARGEST);
-            receive.step(number, yes(w[2]));
-            return "accepted";
+            return "accepted " + receive.step(number(w[1], LARGEST), yes(w[2]));
         }
         return switch (w[1]) {
             case "new" -> {
@@ -333,8 +331,7 @@ public final class Lines {
     }
 
     private String packet(long destination, int protocol, boolean integrity, byte[] packet) throws Refusal {
-        table.packet(destination, protocol, integrity, packet);
-        return "accepted";
+        return "accepted " + table.packet(destination, protocol, integrity, packet);
     }
 
     private String frame(long original, byte[] record) throws Refusal {
@@ -359,19 +356,22 @@ public final class Lines {
         } else if (listed instanceof Listed.Refused l) {
             return l.addresses() + " refused " + l.refusal();
         } else if (listed instanceof Listed.ShortPacket l) {
-            return named(l.addresses(), l.protocol()) + verdict(OptionalInt.of(l.refusal()));
+            return named(l.addresses(), l.protocol()) + " refused " + l.refusal();
         }
         Listed.Packet packet = (Listed.Packet) listed;
         String numbered = " " + hex32(packet.spi()) + " number " + packet.number();
-        return named(packet.addresses(), packet.protocol()) + numbered + verdict(packet.refusal());
+        return named(packet.addresses(), packet.protocol()) + numbered + " " + verdict(packet.verdict());
     }
 
     private static String named(Addresses addresses, int protocol) {
         return addresses + (protocol == 2 ? " AH" : " ESP");
     }
 
-    private static String verdict(OptionalInt refusal) {
-        return refusal.isPresent() ? " refused " + refusal.getAsInt() : " accepted";
+    private static String verdict(Verdict verdict) {
+        if (verdict instanceof Verdict.Accepted accepted) {
+            return "accepted " + accepted.rise();
+        }
+        return "refused " + ((Verdict.Refused) verdict).refusal();
     }
 
     /** The message of a record that is listed as one that reads. */

@@ -114,8 +114,8 @@ fn done(outcome: Result<(), Refusal>) -> String {
     said(outcome.map(|()| "done".to_string()))
 }
 
-fn accepted(outcome: Result<(), Refusal>) -> String {
-    said(outcome.map(|()| "accepted".to_string()))
+fn accepted(outcome: Result<u64, Refusal>) -> String {
+    said(outcome.map(|rise| format!("accepted {rise}")))
 }
 
 fn loss(LossLine { highest, span, count }: LossLine) -> String {
