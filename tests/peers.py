@@ -209,7 +209,7 @@ PREFERENCES = ["frame.show_file_off:TRUE", "ip.defragment:FALSE", "ip.tso_suppor
 LINK = re.compile(r"eth((?::ethertype:(?:vlan|ieee8021ad)){0,2}):ethertype:ip\b")
 # What stands behind UDP where tshark goes by the same port as we do.
 BEHIND_UDP = {"500": ("", ":data", ":isakmp"), "4500": ("", ":udpencap", ":udpencap:esp", ":udpencap:isakmp")}
-ANY_VERDICT = r"(accepted|refused \d+)"
+ANY_VERDICT = r"(accepted \d+|refused \d+)"
 ANY_REFUSAL = r"refused \d+"
 NOT_READ = rf"({ANY_REFUSAL}|enciphered exchange .*)"
 OF_PORT = {"500": rf"({NOT_READ}|exchange .*)", "4500": rf"(keepalive|ESP .*|{NOT_READ}|exchange .*)"}

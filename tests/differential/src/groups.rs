@@ -32,8 +32,9 @@ mod verdicts;
 mod why;
 mod why_words;
 
-use crate::cases::{Case, Cases};
+use crate::cases::{Case, Cases, LINE_END_SHOWN};
 use crate::random::Random;
+use std::ops::RangeInclusive;
 
 pub type Maker = fn(&mut Random, &mut Cases);
 
@@ -55,6 +56,8 @@ pub struct Group {
     /// Whether an answer is a listing, of which every line counts; else its last line does.
     pub listings: bool,
     pub occasions: &'static [Occasion],
+    /// Those that other groups ask for as well.
+    pub shared_occasions: &'static [Occasion],
     pub kinds: &'static [(&'static str, Maker)],
 }
 
@@ -67,6 +70,7 @@ const PLAIN: Group = Group {
     in_order: false,
     listings: false,
     occasions: &[],
+    shared_occasions: &[],
     kinds: &[],
 };
 
@@ -131,6 +135,29 @@ const LATER_STATES: &[&str] = &[
     "given-up sends set transforms initiator-spis responder-spis initiator-nonce responder-nonce",
 ];
 
+/// How far accepted packets must move a window.
+const RISES: &[Occasion] = &[
+    ("a rise of 0", 100, |_, answers| has_rise(answers, 0..=0)),
+    ("a rise of 1", 100, |_, answers| has_rise(answers, 1..=1)),
+    ("a rise of 2 to 63", 100, |_, answers| has_rise(answers, 2..=63)),
+    ("a rise of 64 or more", 100, |_, answers| has_rise(answers, 64..=LARGEST_RISE)),
+    ("a rise of 4294967295", 40, |_, answers| has_rise(answers, LARGEST_RISE..=LARGEST_RISE)),
+];
+
+/// From nothing to the last number.
+const LARGEST_RISE: u64 = 4_294_967_295;
+
+/// Whether an answer, or a line of a listing, tells of one of these rises.
+fn has_rise(answers: &[String], rises: RangeInclusive<u64>) -> bool {
+    let mut lines = answers.iter().flat_map(|answer| answer.split(LINE_END_SHOWN));
+    lines.any(|line| rise_of(line).is_some_and(|rise| rises.contains(&rise)))
+}
+
+/// The rise that a verdict carries, where it is an acceptance.
+fn rise_of(verdict: &str) -> Option<u64> {
+    verdict.rsplit_once("accepted ")?.1.parse().ok()
+}
+
 /// The longest line `der BYTES` has so many bytes in hex.
 const MOST_DER_BYTES: usize = (65_535 - "der ".len()) / 2;
 
@@ -138,6 +165,11 @@ impl Group {
     /// The kinds of answers that must occur.
     pub fn wanted(&self) -> impl Iterator<Item = &'static str> {
         self.answers.iter().copied().flatten().copied()
+    }
+
+    /// The occasions that must occur.
+    pub fn wanted_occasions(&self) -> impl Iterator<Item = &'static Occasion> {
+        self.occasions.iter().chain(self.shared_occasions)
     }
 
     /// Whether a kind of answer belongs to the group.
@@ -180,6 +212,15 @@ mod tests {
             assert_eq!(wanted.len(), group.wanted().count(), "{} names an answer twice", group.name);
             assert!(wanted.iter().all(|kind| group.knows(kind)) && !group.knows("refused 12"), "{}", group.name);
         }
+    }
+
+    #[test]
+    fn a_rise_is_found_in_an_answer_and_in_any_line_of_a_listing() {
+        let has = |answer: &str, rises| has_rise(&[answer.to_string()], rises);
+        assert!(has("accepted 64", 64..=64) && !has("accepted 64", 65..=LARGEST_RISE));
+        let listing = "1 at 24 0.000000 1.0.0.1 > 1.0.0.2 ESP 00000100 number 9 accepted 2 / 2 at 82 cut short";
+        assert!(has(listing, 2..=2) && !has(listing, 9..=9));
+        assert!(!has("accepted", 0..=LARGEST_RISE) && !has("refused 24", 0..=LARGEST_RISE));
     }
 
     /// Document 01's numbers; 8198 would take 4,294,967,295 lines.

@@ -155,14 +155,14 @@ struct Counts {
 
 impl Counts {
     fn new(group: &Group) -> Counts {
-        Counts { kinds: BTreeMap::new(), occasions: vec![0; group.occasions.len()] }
+        Counts { kinds: BTreeMap::new(), occasions: vec![0; group.wanted_occasions().count()] }
     }
 
     fn add(&mut self, group: &Group, case: &Case, answers: &[String]) {
         for kind in answers.iter().flat_map(|answer| kinds_of(group, answer)) {
             *self.kinds.entry(kind).or_default() += 1;
         }
-        for (count, (_, _, occurs)) in self.occasions.iter_mut().zip(group.occasions) {
+        for (count, (_, _, occurs)) in self.occasions.iter_mut().zip(group.wanted_occasions()) {
             *count += usize::from(occurs(case, answers));
         }
     }
@@ -173,7 +173,8 @@ impl Counts {
 
     fn show(&self, group: &Group) -> String {
         let answers = group.wanted().map(|kind| format!("{} {kind}", self.of(kind)));
-        let occasions = self.occasions.iter().zip(group.occasions).map(|(count, (name, ..))| format!("{count} {name}"));
+        let occasions = self.occasions.iter().zip(group.wanted_occasions());
+        let occasions = occasions.map(|(count, (name, ..))| format!("{count} {name}"));
         answers.chain(occasions).collect::<Vec<_>>().join(", ")
     }
 }
@@ -194,8 +195,9 @@ fn count_occurrences(group: &Group, cases: &[Case], counts: &Counts, tally: &mut
         format!("no case of the kind \"{kind}\"")
     });
 
-    if !group.occasions.is_empty() {
-        let rare = group.occasions.iter().zip(&counts.occasions).filter(|((_, at_least, _), count)| *count < at_least);
+    if !counts.occasions.is_empty() {
+        let occasions = group.wanted_occasions().zip(&counts.occasions);
+        let rare = occasions.filter(|((_, at_least, _), count)| *count < at_least);
         let test = format!("{name}: everything else that is asked for occurred often enough");
         tally.count(&test, &rare.collect::<Vec<_>>(), |((occasion, at_least, _), count)| {
             format!("\"{occasion}\" occurred {count} times, not {at_least}")
@@ -318,21 +320,33 @@ fn without_place_and_addresses(line: &str) -> &str {
 mod tests {
     use super::*;
 
+    fn named(name: &str) -> &'static Group {
+        groups::ALL.iter().find(|group| group.name == name).expect("it is there")
+    }
+
+    /// How many tests of a group's counts fail where these are all answers.
+    fn failed(name: &str, answers: &[&str]) -> usize {
+        let group = named(name);
+        let cases = group.cases(DEFAULT_SEED);
+        let mut counts = Counts::new(group);
+        let answers: Vec<_> = answers.iter().map(|answer| answer.to_string()).collect();
+        counts.add(group, &cases[0], &answers);
+        let mut tally = Tally::default();
+        count_occurrences(group, &cases, &counts, &mut tally);
+        tally.failed
+    }
+
     #[test]
     fn answers_that_are_rare_or_foreign_fail() {
-        let group = groups::ALL.iter().find(|group| group.name == "port").expect("it is there");
-        let cases = group.cases(DEFAULT_SEED);
-        let failed = |answers: &[&str]| {
-            let mut counts = Counts::new(group);
-            let answers: Vec<_> = answers.iter().map(|answer| answer.to_string()).collect();
-            counts.add(group, &cases[0], &answers);
-            let mut tally = Tally::default();
-            count_occurrences(group, &cases, &counts, &mut tally);
-            tally.failed
-        };
-        assert_eq!(failed(&["keepalive", "key-exchange 4 1", "esp 4", "refused 16"]), 0);
-        assert_eq!(failed(&["keepalive", "key-exchange 4 1", "esp 4"]), 1);
-        assert_eq!(failed(&["keepalive", "key-exchange 4 1", "esp 4", "refused 15"]), 2);
+        assert_eq!(failed("port", &["keepalive", "key-exchange 4 1", "esp 4", "refused 16"]), 0);
+        assert_eq!(failed("port", &["keepalive", "key-exchange 4 1", "esp 4"]), 1);
+        assert_eq!(failed("port", &["keepalive", "key-exchange 4 1", "esp 4", "refused 15"]), 2);
+    }
+
+    #[test]
+    fn occasions_that_are_rare_fail_also_where_a_group_has_none_of_its_own() {
+        let rare_answers = failed("sequence-lines", &[]);
+        assert_eq!(failed("sequence-window", &[]), rare_answers + 1);
     }
 
     #[test]
@@ -341,6 +355,7 @@ mod tests {
         assert_eq!(kind_of("read 2 1 1@28+52"), "read");
         assert_eq!(kind_of("reply 0000abcd"), "reply");
         assert_eq!(kind_of("kept - ff"), "kept");
+        assert_eq!(kind_of("accepted 65"), "accepted");
         assert_eq!(kind_of("refused 16"), "refused 16");
         assert_eq!(kind_of("bad line"), "bad line");
         assert_eq!(
@@ -357,12 +372,12 @@ mod tests {
         assert_eq!(kind_of("1 at 24 1.000000 10.0.0.1 > 10.0.0.2 other ports 5 > 6"), "other ports >");
         assert_eq!(kind_of("10.0.0.1 > 10.0.0.2 refused 16"), "refused 16");
         assert_eq!(kind_of("1.0.0.1 > 1.0.0.2 ESP 00000100 number 1 refused 8194"), "ESP number refused 8194");
+        assert_eq!(kind_of("1.0.0.1 > 1.0.0.2 ESP 00000100 number 1 accepted 1"), "ESP number accepted");
         assert_ne!(kind_of("name (without a line end)"), "name");
     }
 
     #[test]
     fn every_line_of_a_listing_counts_and_the_last_one_of_other_answers() {
-        let named = |name| groups::ALL.iter().find(|group| group.name == name).expect("it is there");
         let answer = "exchange 2 payloads 1 / payload 1 at 28 length 52 / refused 14";
         assert_eq!(kinds_of(named("verdicts"), answer), ["refused 14"]);
         let listing = "1 at 24 0.000000 not IPv4 / 2 at 54 cut short";

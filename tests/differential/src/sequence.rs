@@ -47,8 +47,9 @@ impl Life {
             return refused(24);
         }
         self.accepted.insert(number);
+        let rise = number.saturating_sub(self.highest);
         self.highest = self.highest.max(number);
-        "accepted".to_string()
+        format!("accepted {rise}")
     }
 
     fn loss(&self) -> String {
@@ -246,6 +247,27 @@ pub fn number_near(random: &mut Random, highest: u32) -> u32 {
     }
 }
 
+/// The numbers of lives, each with its integrity, by which H rises from nothing and then again or not: by 1, by the window's
+/// width, by one more and one less. What is refused before the first or between the two changes no rise.
+pub fn rising_lives() -> Vec<Vec<(u32, bool)>> {
+    const FIRST: [u32; 8] = [1, 63, 64, 65, 66, u32::MAX - 65, u32::MAX - 1, u32::MAX];
+    const FROM_FIRST: [i64; 14] = [-65, -64, -63, -62, -2, -1, 0, 1, 2, 62, 63, 64, 65, 66];
+    let mut lives = Vec::new();
+    for first in FIRST {
+        for then in FROM_FIRST.iter().filter_map(|way| u32::try_from(i64::from(first) + way).ok()) {
+            let [one, other] = [(first, true), (then, true)];
+            lives.push(vec![one, other]);
+            for refused in [(0, true), (then, false), (u32::MAX, false)] {
+                lives.push(vec![refused, one, refused, other]);
+            }
+            for refused in [first, first.saturating_sub(64)] {
+                lives.push(vec![one, (refused, true), other]);
+            }
+        }
+    }
+    lives
+}
+
 #[cfg(test)]
 mod tests {
     use super::*;
@@ -254,13 +276,30 @@ mod tests {
     #[test]
     fn the_marked_examples_are_followed() {
         let mut life = Life::default();
-        assert_eq!([0, 1, 1].map(|number| life.verdict(number, true)), ["refused 8197", "accepted", "refused 8194"]);
-        for (first, then) in [(64, "accepted"), (65, "refused 8197")] {
+        assert_eq!([0, 1, 1].map(|number| life.verdict(number, true)), ["refused 8197", "accepted 1", "refused 8194"]);
+        for (first, then) in [(64, "accepted 0"), (65, "refused 8197")] {
             let mut life = Life::default();
             life.verdict(first, true);
             assert_eq!(life.verdict(1, true), then);
         }
-        assert_eq!([2, 4].map(|number| life.verdict(number, true)), ["accepted", "accepted"]);
+        assert_eq!([2, 4].map(|number| life.verdict(number, true)), ["accepted 1", "accepted 2"]);
         assert_eq!(life.loss(), "loss 4 4 3");
+    }
+
+    #[test]
+    fn the_examples_of_request_four_are_followed() {
+        let mut life = Life::default();
+        assert_eq!([5, 3, 70].map(|number| life.verdict(number, true)), ["accepted 5", "accepted 0", "accepted 65"]);
+    }
+
+    #[test]
+    fn the_rises_of_a_life_add_up_to_its_highest_number() {
+        for numbers in rising_lives() {
+            let mut life = Life::default();
+            let verdicts = numbers.iter().map(|&(number, integrity)| life.verdict(number, integrity));
+            let rises = verdicts.filter_map(|verdict| verdict.strip_prefix("accepted ")?.parse::<u64>().ok());
+            let risen: u64 = rises.sum();
+            assert!(life.loss().starts_with(&format!("loss {risen} ")), "{numbers:?}");
+        }
     }
 }

@@ -8,6 +8,7 @@ use crate::source::Source;
 const NAMED: &[(&str, &str)] = &[
     ("bench.rs", "«self.lent = Receive::default();→»"),
     ("bench.rs", "lawful::answer(&offer, &reply, «None→Some(&[0, 0])»)"),
+    ("bench.rs", "format!(\"accepted« {rise}→»\")"),
     ("identity.rs", "9 => der::«is_name→is_one_element»(data)"),
     ("identity.rs", "10 => der::«is_one_element→is_name»(data)"),
     ("lawful.rs", "«let offered = Recorded::new(\"offer\", offer)?;\n    \
@@ -82,10 +83,27 @@ const NAMED: &[(&str, &str)] = &[
     ("quick_messages.rs", "(proposal.number, «proposal.protocol, →»transforms)"),
     ("quick_messages.rs", "(proposal.number, proposal.protocol«, transforms→»)"),
     ("quick_messages.rs", "«.filter(|proposal| proposal.number == set)→»"),
+    ("record.rs", "format!(\"accepted« {rise}→»\")"),
+    ("record.rs", "table.add(Key { destination, protocol, spi })?;\n            \
+                   table.packet(destination, protocol, true, packet)«→.map(|_| 0)»"),
     ("reply.rs", "«&[NONE_NEXT]→&taken.transform.bytes[..1]», &taken.transform.bytes[1..]"),
     ("sequence.rs", "«refuse_if(!integrity, refusal::INTEGRITY)?;\n        self.accepted.insert(number);\
                      →self.accepted.insert(number);\n        refuse_if(!integrity, refusal::INTEGRITY)?;»"),
-    ("sequence.rs", "«→.or(Some(()))».ok_or(refusal::SPI)\n    }\n\n    pub fn packet"),
+    ("sequence.rs", "self.accepted.insert(number);«→ let before = self.highest();»"),
+    ("sequence.rs", "Ok(u64::from(«self.highest() - before→number»))"),
+    ("sequence.rs", "Ok(u64::from(self.highest()« - before→»))"),
+    ("sequence.rs", "Ok(u64::from(«self.highest() - before→number.abs_diff(before)»))"),
+    ("sequence.rs", "Ok(u64::from(«self.highest() - before→(self.highest() - before).saturating_sub(1)»))"),
+    ("sequence.rs", "Ok(u64::from(«self.highest() - before→(self.highest() - before).min(SPAN)»))"),
+    ("sequence.rs", "Ok(u64::from(«self.highest() - before→(self.highest() - before).min(u32::MAX - 1)»))"),
+    ("sequence.rs", "Ok(u64::from(«self.highest() - before→(self.highest() - before) as u16»))"),
+    ("sequence.rs", "Ok(u64::from(«self.highest() - before→if before == 0 { 1 } else { self.highest() - before }»))"),
+    ("sequence.rs", "Ok(u64::from(self.highest() - before)«→ + 1»)"),
+    ("sequence.rs", "«self.life(Key { destination, protocol, spi })?.received.step(number, integrity)\
+                     →let of_all = self.lives.values().map(|life| life.received.highest()).max().unwrap_or(0);\n        \
+                     let verdict = self.life(Key { destination, protocol, spi })?.received.step(number, integrity);\n        \
+                     verdict.map(|_| u64::from(number.saturating_sub(of_all)))»"),
+    ("sequence.rs", "«→.or(Some(()))».ok_or(refusal::SPI)\n    }\n\n    /// The rise"),
     ("sequence.rs", "self.lives.«remove→get»(&key)"),
     ("sequence.rs", "self.lives«.insert(key, Life::default())→.entry(key).or_default()»;"),
     ("sequence.rs", "«life.sent.checked_add(1)→Some(life.sent.wrapping_add(1))»"),

@@ -105,8 +105,8 @@ fn done(outcome: Result<(), Refusal>) -> String {
     answer(outcome, |()| "done".to_string())
 }
 
-fn accepted(outcome: Result<(), Refusal>) -> String {
-    answer(outcome, |()| "accepted".to_string())
+fn accepted(outcome: Result<u64, Refusal>) -> String {
+    answer(outcome, |rise| format!("accepted {rise}"))
 }
 
 fn lawful(outcome: Result<(), Refusal>) -> String {
@@ -246,9 +246,23 @@ mod tests {
             assert_eq!(said(&format!("frame {original} {frame}")), "bad line");
         }
         assert_eq!(said("loss 0a000002 3 00000100"), "refused 11");
-        assert_eq!(said(&format!("frame 42 {frame}")), "10.0.0.1 > 10.0.0.2 ESP 00000100 number 2 accepted");
+        assert_eq!(said(&format!("frame 42 {frame}")), "10.0.0.1 > 10.0.0.2 ESP 00000100 number 2 accepted 2");
         assert_eq!(said("loss 0a000002 3 00000100"), "loss 2 2 1");
         assert_eq!(said("packet 0a000002 3 yes 0000010000000002"), "refused 8194");
+        assert_eq!(said("packet 0a000002 3 yes 0000010000000005"), "accepted 3");
+    }
+
+    #[test]
+    fn an_accepted_number_of_the_lent_record_has_its_rise_behind_it() {
+        let mut bench = Bench::default();
+        let mut said = |line: &str| bench.answer(line.as_bytes()).unwrap_or_default();
+        for _ in 0..2 {
+            let answers =
+                ["lent new", "lent 5 yes", "lent 3 yes", "lent 5 yes", "lent 70 no", "lent 70 yes"].map(&mut said);
+            assert_eq!(answers, ["done", "accepted 5", "accepted 0", "refused 8194", "refused 24", "accepted 65"]);
+            assert_eq!(said("lent loss"), "loss 70 64 1");
+        }
+        assert_eq!(["lent new", "lent 4294967295 yes"].map(&mut said), ["done", "accepted 4294967295"]);
     }
 
     #[test]

@@ -165,7 +165,8 @@ mod tests {
     #[test]
     fn a_listing_has_number_place_stamp_and_what_in_either_byte_order() {
         let big = [&BIG[..], &record(&esp(256, 1)), &record(&[0; 14])].concat();
-        let lines = "1 at 24 7.000005 10.0.0.1 > 10.0.0.2 ESP 00000100 number 1 accepted\n2 at 82 7.000005 not IPv4\n";
+        let lines =
+            "1 at 24 7.000005 10.0.0.1 > 10.0.0.2 ESP 00000100 number 1 accepted 1\n2 at 82 7.000005 not IPv4\n";
         assert_eq!(said(&big, None), lines);
         let mut little = big.clone();
         little[..24].copy_from_slice(&LITTLE);
@@ -269,8 +270,8 @@ mod tests {
     fn options_are_passed_over_and_fragments_are_not_read() {
         let mut options = ethernet(&ip(50, &[1, 1, 1, 1, 0, 0, 1, 0, 0, 0, 0, 9]));
         options[14] = 0x46;
-        assert_eq!(one(&options), "10.0.0.1 > 10.0.0.2 ESP 00000100 number 9 accepted");
-        for (flags, what) in [(0x20, "fragment"), (0x01, "fragment"), (0x40, "ESP 00000100 number 1 accepted")] {
+        assert_eq!(one(&options), "10.0.0.1 > 10.0.0.2 ESP 00000100 number 9 accepted 9");
+        for (flags, what) in [(0x20, "fragment"), (0x01, "fragment"), (0x40, "ESP 00000100 number 1 accepted 1")] {
             let mut frame = esp(256, 1);
             frame[20] = flags;
             assert_eq!(one(&frame), format!("10.0.0.1 > 10.0.0.2 {what}"));
@@ -300,7 +301,7 @@ mod tests {
         assert_eq!(said_of(500, 4500, &[255]), "keepalive");
         assert_eq!(said_of(500, 4500, &[255; 3]), "refused 16");
         assert_eq!(said_of(500, 4500, &[255; 7]), "ESP refused 16");
-        assert_eq!(said_of(500, 4500, &[255; 8]), "ESP ffffffff number 4294967295 accepted");
+        assert_eq!(said_of(500, 4500, &[255; 8]), "ESP ffffffff number 4294967295 accepted 4294967295");
         assert_eq!(said_of(53, 4501, &[]), "other ports 53 > 4501");
         for length in [0, 7, 9] {
             let mut frame = udp(500, 500, &[]);
@@ -315,17 +316,19 @@ mod tests {
         let mut table = Table::default();
         let mut said = |frame: Vec<u8>| record::listed(&mut table, None, 0, &frame)[20..].to_string();
         assert_eq!(said(ah(0, 0x1234, 0)), "AH 00001234 number 0 refused 8197");
-        assert_eq!(said(ah(0, 0x1234, 65)), "AH 00001234 number 65 accepted");
+        assert_eq!(said(ah(0, 0x1234, 65)), "AH 00001234 number 65 accepted 65");
         assert_eq!(said(ah(0, 0x1234, 65)), "AH 00001234 number 65 refused 8194");
         assert_eq!(said(ah(0, 0x1234, 1)), "AH 00001234 number 1 refused 8197");
-        assert_eq!(said(esp(0x1234, 1)), "ESP 00001234 number 1 accepted");
+        assert_eq!(said(esp(0x1234, 1)), "ESP 00001234 number 1 accepted 1");
+        assert_eq!(said(ah(0, 0x1234, 64)), "AH 00001234 number 64 accepted 0");
+        assert_eq!(said(ah(0, 0x1234, 67)), "AH 00001234 number 67 accepted 2");
         assert_eq!(said(esp(255, 1)), "ESP 000000ff number 1 refused 11");
         assert_eq!(said(ah(1, 0x9999, 5)), "AH 00009999 number 5 refused 16");
         assert_eq!(said(ethernet(&ip(51, &[0; 11]))), "AH refused 16");
         assert_eq!(said(ethernet(&ip(51, &[0; 12]))), "AH 00000000 number 0 refused 16");
         assert_eq!(said(ethernet(&ip(50, &[0; 7]))), "ESP refused 16");
         for spi in 1_000..1_062 {
-            assert_eq!(said(esp(spi, 1)), format!("ESP {spi:08x} number 1 accepted"));
+            assert_eq!(said(esp(spi, 1)), format!("ESP {spi:08x} number 1 accepted 1"));
         }
         assert_eq!(said(esp(1_062, 1)), "ESP 00000426 number 1 refused 8199");
         assert_eq!(said(esp(255, 1)), "ESP 000000ff number 1 refused 11");

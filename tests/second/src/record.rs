@@ -70,7 +70,7 @@ fn key_exchange(book: Option<&Book>, message: &[u8]) -> String {
 /// SPI and number where the packet has them, and the table's verdict.
 fn verdict_on(table: &mut Table, destination: u32, protocol: u8, packet: &[u8]) -> String {
     let verdict = match shown_to(table, destination, protocol, packet) {
-        Ok(()) => "accepted".to_string(),
+        Ok(rise) => format!("accepted {rise}"),
         Err(number) => refused(number),
     };
     match fields(protocol, packet) {
@@ -89,7 +89,7 @@ fn fields(protocol: u8, packet: &[u8]) -> Option<(u32, u32)> {
 }
 
 /// Integrity is taken as yes. Where 11 would stand, the packet reads and its key is absent: the key is added first.
-fn shown_to(table: &mut Table, destination: u32, protocol: u8, packet: &[u8]) -> Result<(), Refusal> {
+fn shown_to(table: &mut Table, destination: u32, protocol: u8, packet: &[u8]) -> Result<u64, Refusal> {
     match (table.packet(destination, protocol, true, packet), fields(protocol, packet)) {
         (Err(refusal::SPI), Some((spi, _))) => {
             table.add(Key { destination, protocol, spi })?;

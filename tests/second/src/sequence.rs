@@ -1,4 +1,4 @@
-//! Document 01, "Sequence numbers": the table of lives, the packets, and one receive record by itself.
+//! Document 01, "Sequence numbers", and request four: the table of lives, the packets, and one receive record by itself.
 //! A record is the plain set of the numbers that were accepted in its life.
 //!
 //! AH: next header, length, reserved (2 bytes), SPI (4), number (4), and more. ESP: SPI (4), number (4), and more.
@@ -39,13 +39,15 @@ impl Receive {
         self.accepted.last().copied().unwrap_or(0)
     }
 
-    pub fn step(&mut self, number: u32, integrity: bool) -> Result<(), Refusal> {
-        let behind = u64::from(number) + u64::from(SPAN) <= u64::from(self.highest());
+    /// The rise of an accepted number: the highest after it less the highest before it.
+    pub fn step(&mut self, number: u32, integrity: bool) -> Result<u64, Refusal> {
+        let before = self.highest();
+        let behind = u64::from(number) + u64::from(SPAN) <= u64::from(before);
         refuse_if(number == 0 || behind, refusal::ZERO_OR_BEHIND)?;
         refuse_if(self.accepted.contains(&number), refusal::ACCEPTED_BEFORE)?;
         refuse_if(!integrity, refusal::INTEGRITY)?;
         self.accepted.insert(number);
-        Ok(())
+        Ok(u64::from(self.highest() - before))
     }
 
     pub fn loss(&self) -> Loss {
@@ -81,7 +83,8 @@ impl Table {
         self.lives.remove(&key).map(|_| ()).ok_or(refusal::SPI)
     }
 
-    pub fn packet(&mut self, destination: u32, protocol: u8, integrity: bool, packet: &[u8]) -> Result<(), Refusal> {
+    /// The rise of an accepted packet's number in its life.
+    pub fn packet(&mut self, destination: u32, protocol: u8, integrity: bool, packet: &[u8]) -> Result<u64, Refusal> {
         let (spi, number) = spi_and_number(protocol, packet)?;
         self.life(Key { destination, protocol, spi })?.received.step(number, integrity)
     }
@@ -115,5 +118,62 @@ fn spi_and_number(protocol: u8, packet: &[u8]) -> Result<(u32, u32), Refusal> {
             Ok((u32_at(packet, 0), u32_at(packet, 4)))
         }
         _ => Err(refusal::PROTOCOL),
+    }
+}
+
+#[cfg(test)]
+mod tests {
+    use super::*;
+
+    /// The verdicts on the numbers of a new life, each with its integrity.
+    fn verdicts<const COUNT: usize>(numbers: [(u32, bool); COUNT]) -> [Result<u64, Refusal>; COUNT] {
+        let mut record = Receive::default();
+        numbers.map(|(number, integrity)| record.step(number, integrity))
+    }
+
+    fn rises<const COUNT: usize>(numbers: [u32; COUNT]) -> [u64; COUNT] {
+        verdicts(numbers.map(|number| (number, true))).map(|verdict| verdict.expect("it is accepted"))
+    }
+
+    #[test]
+    fn the_rise_is_how_far_the_highest_number_rose() {
+        assert_eq!(rises([5, 3, 70]), [5, 0, 65]);
+        assert_eq!(rises([1, 2, 4, 67, 131, 196]), [1, 1, 2, 63, 64, 65]);
+        for first in [1, 64, 65, 4_294_967_295] {
+            assert_eq!(rises([first]), [first.into()]);
+        }
+        assert_eq!(rises([1, 4_294_967_294, 4_294_967_295]), [1, 4_294_967_293, 1]);
+    }
+
+    #[test]
+    fn a_number_inside_the_window_raises_nothing() {
+        assert_eq!(rises([64, 1, 63, 32, 65]), [64, 0, 0, 0, 1]);
+        assert_eq!(rises([4_294_967_295, 4_294_967_294, 4_294_967_232]), [4_294_967_295, 0, 0]);
+    }
+
+    #[test]
+    fn a_refused_number_carries_nothing_and_changes_no_rise() {
+        let shown = [(100, false), (0, true), (10, true), (10, true), (500, false), (74, true), (10, true), (76, true)];
+        let [no, zero, again, behind] = [24, 8_197, 8_194, 8_197].map(Err);
+        assert_eq!(verdicts(shown), [no, zero, Ok(10), again, no, Ok(64), behind, Ok(2)]);
+    }
+
+    #[test]
+    fn every_life_of_a_key_counts_its_rises_from_0() {
+        let mut table = Table::default();
+        let [key, other] = [0x1234, 0x1235].map(|spi| Key { destination: 9, protocol: ESP, spi });
+        table.add(other).unwrap();
+        for life in 1..=2 {
+            table.add(key).unwrap();
+            let mut shown = |key: Key, number: u32| {
+                let packet = [key.spi.to_be_bytes(), number.to_be_bytes()].concat();
+                table.packet(key.destination, key.protocol, true, &packet)
+            };
+            assert_eq!(shown(key, 7), Ok(7));
+            assert_eq!(shown(other, life * 1_000), Ok(1_000));
+            assert_eq!([8, 6, 80].map(|number| shown(key, number)), [Ok(1), Ok(0), Ok(72)]);
+            assert_eq!(table.loss(key).map(|loss| loss.highest), Ok(7 + 1 + 72));
+            table.remove(key).unwrap();
+        }
     }
 }

@@ -1,7 +1,7 @@
 //! The capture programs: files of every kind of record, each field of the headers, files that end anywhere, and borders
 //! of records around the multiples of 65,536 bytes.
 
-use super::{choices, Group, PLAIN, READ_REFUSALS};
+use super::{choices, Group, PLAIN, READ_REFUSALS, RISES};
 use crate::capture::{
     Capture, FileHeader, Lengths, Order, FILE_HEADER_SIZE, LONGEST_RECORD, ORDERS, RECORD_HEADER_SIZE, RIGHT,
 };
@@ -14,7 +14,7 @@ use crate::message::{message_of, random_message, EXCHANGES, HEADER_SIZE, NONCE, 
 use crate::offer::SMALL;
 use crate::policy::{random_book, Book};
 use crate::random::Random;
-use crate::sequence::{ah, random_key, Key, Lives, MOST_ENTRIES};
+use crate::sequence::{ah, random_key, rising_lives, Key, Lives, MOST_ENTRIES};
 
 pub const GROUP: Group = Group {
     name: "captures",
@@ -49,6 +49,7 @@ pub const GROUP: Group = Group {
         ("files over 65,536 bytes", 500, |case, _| case.input.len() > 65_536),
         ("files over 262,144 bytes", 50, |case, _| case.input.len() > 262_144),
     ],
+    shared_occasions: RISES,
     kinds: &[
         ("sound records", sound_records),
         (FILE_HEADER, file_headers),
@@ -66,6 +67,7 @@ pub const GROUP: Group = Group {
         ("unlawful book", unlawful_books),
         ("file that comes in pieces", in_pieces),
         ("bytes changed", bytes_changed),
+        ("rise at its limits", rises_at_their_limits),
     ],
     ..PLAIN
 };
@@ -95,6 +97,12 @@ fn sound(random: &mut Random, capture: &mut Capture, lives: &mut Lives, keys: &[
     let sound = random_sound(random, lives, keys);
     capture.record(random, sound.original, &sound.bytes, &[sound.what]);
     sound.offer.is_some()
+}
+
+/// A well formed packet under that key.
+fn packet(random: &mut Random, capture: &mut Capture, lives: &mut Lives, key: Key, number: u32) {
+    let frame = with_packet(random, key, number);
+    capture.frame(random, &frame, frame.says(&packet_says(lives, key, number)));
 }
 
 /// With a book, lines about offers come behind those that the maker knows.
@@ -176,8 +184,7 @@ fn fronts(random: &mut Random, cases: &mut Cases) {
         capture.frame(random, &frame, frame.says(&refused(30)));
         capture.filling(random, 14);
         capture.filling(random, 40);
-        let frame = with_packet(random, key, 2);
-        capture.frame(random, &frame, frame.says(&packet_says(&mut lives, key, 2)));
+        packet(random, &mut capture, &mut lives, key, 2);
         for size in 0..=capture.bytes.len() {
             let book = (size % 4 == 0).then(|| random_book(random).encode());
             let lines = capture.lines_of_front(size);
@@ -300,13 +307,10 @@ fn full_tables(random: &mut Random, cases: &mut Cases) {
         let keys = random_keys(random, MOST_ENTRIES + time % 6);
         for round in 0..2 {
             for (place, &key) in keys.iter().enumerate() {
-                let number = (place % 5 + round) as u32;
-                let frame = with_packet(random, key, number);
-                capture.frame(random, &frame, frame.says(&packet_says(&mut lives, key, number)));
+                packet(random, &mut capture, &mut lives, key, (place % 5 + round) as u32);
             }
             for key in [Key { spi: 255, ..random_key(random) }, Key { spi: 1, ..random_key(random) }] {
-                let frame = with_packet(random, key, 1);
-                capture.frame(random, &frame, frame.says(&packet_says(&mut lives, key, 1)));
+                packet(random, &mut capture, &mut lives, key, 1);
             }
         }
         for size in [0, 7, 8, 11] {
@@ -477,5 +481,26 @@ fn bytes_changed(random: &mut Random, cases: &mut Cases) {
         }
         let book = random.once_in(2).then(|| random_book(random).encode());
         cases.capture(bytes, WHOLE, book.as_deref(), None);
+    }
+}
+
+/// Some lives in each file, each under its own key, their packets by turns. A capture has no packet whose integrity is no.
+fn rises_at_their_limits(random: &mut Random, cases: &mut Cases) {
+    const FILES: usize = 50;
+    let all = rising_lives();
+    let turns = all.iter().map(Vec::len).max().unwrap_or(0);
+    for file in 0..FILES {
+        let mut capture = Capture::new(random, ORDERS[file % 2]);
+        let mut lives = Lives::default();
+        let of_file: Vec<_> = all.iter().skip(file).step_by(FILES).collect();
+        let keys = random_keys(random, of_file.len());
+        for turn in 0..turns {
+            for (life, &key) in of_file.iter().zip(&keys) {
+                if let Some(&(number, true)) = life.get(turn) {
+                    packet(random, &mut capture, &mut lives, key, number);
+                }
+            }
+        }
+        add(cases, &capture);
     }
 }

@@ -1,7 +1,7 @@
 //! Lines `frame`: sound records of every kind, each check at its limits and broken with those behind it, and what reaches
 //! the table, among lines that ask and change the same table.
 
-use super::{Group, PLAIN, READ_REFUSALS};
+use super::{Group, PLAIN, READ_REFUSALS, RISES};
 use crate::cases::{refused, strings, word, Cases};
 use crate::checks::CHECKS;
 use crate::frame::{
@@ -11,7 +11,7 @@ use crate::frame::{
 use crate::message::{message_of, opaque, random_message, Message, EXCHANGES, HEADER_SIZE, LONGEST, NONCE, SA, VENDOR};
 use crate::offer::SMALL;
 use crate::random::Random;
-use crate::sequence::{self, ah, esp, number_near, random_key, Follower, Key, LOWEST_SPI, MOST_ENTRIES};
+use crate::sequence::{self, ah, esp, number_near, random_key, rising_lives, Follower, Key, LOWEST_SPI, MOST_ENTRIES};
 use second::bench::Bench;
 
 pub const GROUP: Group = Group {
@@ -42,7 +42,7 @@ pub const GROUP: Group = Group {
     occasions: &[
         ("lines `frame`", 100_000, |case, answers| case.input.starts_with(b"frame ") && answers != ["bad line"]),
         ("a key added first, its number accepted", 500, |case, answers| {
-            EMPTY_BEFORE.contains(&case.kind) && answers.iter().any(|answer| answer.ends_with(" accepted"))
+            EMPTY_BEFORE.contains(&case.kind) && answers.iter().any(|answer| answer.contains(" accepted "))
         }),
         ("a key added first, its number refused", 20, |case, answers| {
             EMPTY_BEFORE.contains(&case.kind) && answers.iter().any(|answer| answer.ends_with(" number 0 refused 8197"))
@@ -56,6 +56,7 @@ pub const GROUP: Group = Group {
             tagged && answers.iter().any(|answer| answer.contains(" exchange "))
         }),
     ],
+    shared_occasions: RISES,
     kinds: &[
         ("sound record", sound_records),
         ("captured and original length", originals),
@@ -83,6 +84,7 @@ pub const GROUP: Group = Group {
         ("byte changed", bytes_changed),
         ("random bytes", random_bytes),
         ("words of the line", words),
+        ("rise at its limits", rises_at_their_limits),
     ],
     ..PLAIN
 };
@@ -859,5 +861,21 @@ fn words(random: &mut Random, cases: &mut Cases) {
         };
         follower.line(&line, answer);
         follower.line(&format!("{line}00"), "bad line".to_string());
+    }
+}
+
+/// A frame's integrity is taken as yes; where it is no, the packet comes by a line of its own.
+fn rises_at_their_limits(random: &mut Random, cases: &mut Cases) {
+    let mut follower = Follower::new(cases);
+    let keys = [sequence::AH, sequence::ESP].map(|protocol| Key { protocol, ..random_key(random) });
+    for (life, key) in rising_lives().into_iter().zip(keys.into_iter().cycle()) {
+        for (number, integrity) in life {
+            match integrity {
+                true => add_packet(random, &mut follower, key, number),
+                false => follower.packet(random, key, number, false),
+            }
+        }
+        follower.loss(key);
+        follower.remove_all();
     }
 }

@@ -1,9 +1,9 @@
 //! The table of lives: 64 keys and 65, keys that differ in one part only, removal and reuse, and calls at random.
 
-use super::{Group, PLAIN};
+use super::{Group, PLAIN, RISES};
 use crate::cases::Cases;
 use crate::random::Random;
-use crate::sequence::{number_near, random_key, Follower, Key, AH, ESP, LOWEST_SPI, MOST_ENTRIES};
+use crate::sequence::{number_near, random_key, rising_lives, Follower, Key, AH, ESP, LOWEST_SPI, MOST_ENTRIES};
 
 pub const GROUP: Group = Group {
     name: "sequence-table",
@@ -14,6 +14,7 @@ pub const GROUP: Group = Group {
     ],
     at_least: 50,
     in_order: true,
+    shared_occasions: RISES,
     kinds: &[
         ("absent key", absent_keys),
         ("checks of adding", checks_of_adding),
@@ -23,6 +24,7 @@ pub const GROUP: Group = Group {
         ("sending", sending),
         ("call at random", calls_at_random),
         ("walk of many lives", walks_of_many_lives),
+        ("rise at its limits", rises_at_their_limits),
     ],
     ..PLAIN
 };
@@ -213,6 +215,23 @@ fn walks_of_many_lives(random: &mut Random, cases: &mut Cases) {
                 follower.loss(key);
             }
         }
+        follower.remove_all();
+    }
+}
+
+/// Each life of a key counts from 0, and another key's packets in between are none of its own.
+fn rises_at_their_limits(random: &mut Random, cases: &mut Cases) {
+    let mut follower = Follower::new(cases);
+    let keys = [AH, ESP].map(|protocol| Key { protocol, ..random_key(random) });
+    for (life, key) in rising_lives().into_iter().zip(keys.into_iter().cycle()) {
+        let beside = random_key(random);
+        follower.add(key);
+        follower.add(beside);
+        for (number, integrity) in life {
+            follower.packet(random, key, number, integrity);
+            packet_near(random, &mut follower, beside);
+        }
+        follower.loss(key);
         follower.remove_all();
     }
 }

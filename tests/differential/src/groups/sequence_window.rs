@@ -1,15 +1,16 @@
-//! One receive record, lent: walks near the window's edges, and every two numbers after each other.
+//! One receive record, lent: walks near the window's edges, every two numbers after each other, and rises at their limits.
 
-use super::{Group, PLAIN};
+use super::{Group, PLAIN, RISES};
 use crate::cases::Cases;
 use crate::random::Random;
-use crate::sequence::{number_near, Follower};
+use crate::sequence::{number_near, rising_lives, Follower};
 
 pub const GROUP: Group = Group {
     name: "sequence-window",
     answers: &[&["done", "accepted", "refused 24", "refused 8194", "refused 8197", "loss"]],
     at_least: 50,
     in_order: true,
+    shared_occasions: RISES,
     kinds: &[
         ("record before a first `lent new`", record_before_a_first_new),
         ("two numbers after each other", two_numbers),
@@ -17,6 +18,7 @@ pub const GROUP: Group = Group {
         ("integrity no before yes", integrity_no_before_yes),
         ("walk", walks),
         ("walk to the end of all numbers", walks_to_the_end),
+        ("rise at its limits", rises_at_their_limits),
     ],
     ..PLAIN
 };
@@ -109,6 +111,16 @@ fn walks_to_the_end(random: &mut Random, cases: &mut Cases) {
         for back in [0, 1, 62, 63, 64, 65] {
             follower.lent(u32::MAX - back, true);
         }
+        follower.lent_loss();
+    }
+}
+
+/// Together the rises of a life are the H of its loss line.
+fn rises_at_their_limits(_: &mut Random, cases: &mut Cases) {
+    let mut follower = Follower::new(cases);
+    for life in rising_lives() {
+        follower.lent_new();
+        life.iter().for_each(|&(number, integrity)| follower.lent(number, integrity));
         follower.lent_loss();
     }
 }
