@@ -7,11 +7,14 @@ use crate::timing;
 use crate::window::{Life, Window, ACCEPTED, LIVES};
 use std::hint::black_box;
 
-/// The core's record is two words, as a window is.
-type Step = unsafe extern "C" fn(&mut Window, u32, bool) -> u32;
+/// The core's record is two words, as a window is. The last word is for the rise.
+type Step = unsafe extern "C" fn(&mut Window, u32, bool, &mut u64) -> u32;
 
-/// The table, destination, protocol, integrity, and a slice of bytes: where it begins, and its length.
-type PacketInto = unsafe extern "C" fn(&mut Table, u32, u8, bool, *const u8, usize) -> u32;
+/// The table, destination, protocol, integrity, a slice of bytes (where it begins, and its length), and a word for the rise.
+type PacketInto = unsafe extern "C" fn(&mut Table, u32, u8, bool, *const u8, usize, &mut u64) -> u32;
+
+/// `ACCEPTED` or a refusal, and then the word for the rise, which a refusal leaves as it was.
+type Verdict = (u32, u64);
 
 /// The core's table or the peers', so that all contenders are called from one loop.
 #[repr(C)]
@@ -27,7 +30,7 @@ const ORDERS: [(&str, Order); 2] = [("in order", Order::InOrder), ("mixed", Orde
 type Ratios = [f64; 2];
 
 pub fn record() -> Ratios {
-    // SAFETY: each takes a record, a number and whether its integrity holds.
+    // SAFETY: each takes what `Step` says.
     let calls: [Step; ALL] = unsafe { places::calls(["tallowbrim_step", "plain_rust_step", "plain_c_step"]) };
     greatest(ORDERS.map(|(order_name, order)| {
         let stream = &streams::packets(order, 1);
@@ -48,24 +51,33 @@ pub fn table() -> Ratios {
 }
 
 /// The verdicts of a record's steps, from its beginning.
-fn steps(call: Step, stream: &[Packet]) -> impl Iterator<Item = u32> + '_ {
+fn steps(call: Step, stream: &[Packet]) -> impl Iterator<Item = Verdict> + '_ {
     let mut record = Window::default();
-    // SAFETY: each contender takes any record and any number.
-    stream.iter().map(move |packet| unsafe { call(&mut record, packet.number, packet.integrity) })
+    let mut rise = 0;
+    stream.iter().map(move |packet| {
+        // SAFETY: each contender takes any record and any number.
+        let verdict = unsafe { call(&mut record, packet.number, packet.integrity, &mut rise) };
+        (verdict, rise)
+    })
 }
 
 /// The verdicts of packets into a table.
-fn into(call: PacketInto, mut table: Table, stream: &[Packet]) -> impl Iterator<Item = u32> + '_ {
-    // SAFETY: the last two are those of a slice that outlives the call.
-    stream.iter().map(move |packet| unsafe {
-        call(
-            &mut table,
-            packet.destination,
-            packet.protocol,
-            packet.integrity,
-            packet.bytes.as_ptr(),
-            packet.bytes.len(),
-        )
+fn into(call: PacketInto, mut table: Table, stream: &[Packet]) -> impl Iterator<Item = Verdict> + '_ {
+    let mut rise = 0;
+    stream.iter().map(move |packet| {
+        // SAFETY: the bytes are those of a slice that outlives the call.
+        let verdict = unsafe {
+            call(
+                &mut table,
+                packet.destination,
+                packet.protocol,
+                packet.integrity,
+                packet.bytes.as_ptr(),
+                packet.bytes.len(),
+                &mut rise,
+            )
+        };
+        (verdict, rise)
     })
 }
 
@@ -92,20 +104,21 @@ fn peers_table() -> Table {
     Table { lives }
 }
 
-/// The core's time over its peers', each the mean over its places, once all contenders answer alike, verdict for verdict.
-fn compare<Verdicts: Iterator<Item = u32>>(what: &str, contenders: [impl Fn() -> Verdicts; ALL]) -> Ratios {
-    let verdicts: Vec<u32> = contenders[0]().collect();
+/// The core's time over its peers', each the mean over its places, once all contenders answer alike, verdict for verdict and rise
+/// for rise. The rounds that are timed add up both.
+fn compare<Verdicts: Iterator<Item = Verdict>>(what: &str, contenders: [impl Fn() -> Verdicts; ALL]) -> Ratios {
+    let verdicts: Vec<Verdict> = contenders[0]().collect();
     assert!(
         contenders.iter().all(|answer| answer().eq(verdicts.iter().copied())),
         "{what}: the contenders answer unlike"
     );
     let rounds = contenders.map(|answer| {
         move || {
-            black_box(answer().fold(0, u32::wrapping_add));
+            black_box(answer().fold(0, |sum: u64, (verdict, rise)| sum.wrapping_add(u64::from(verdict) + rise)));
         }
     });
     let times = timing::medians(rounds.each_ref().map(|round| round as &dyn Fn()), verdicts.len());
-    let accepted = verdicts.iter().filter(|&&verdict| verdict == ACCEPTED).count();
+    let accepted = verdicts.iter().filter(|&&(verdict, _)| verdict == ACCEPTED).count();
     told(&format!("{what} ({accepted} of {} accepted)", verdicts.len()), times)
 }
 

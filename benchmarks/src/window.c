@@ -18,7 +18,7 @@ struct life {
     struct window window;
 };
 
-uint32_t plain_c_step(struct window *w, uint32_t number, bool integrity)
+uint32_t plain_c_step(struct window *w, uint32_t number, bool integrity, uint64_t *rise)
 {
     uint64_t n = number;
     if (n == 0 || n + WINDOW <= w->highest)
@@ -29,6 +29,7 @@ uint32_t plain_c_step(struct window *w, uint32_t number, bool integrity)
         uint64_t up = n - w->highest;
         w->seen = up < WINDOW ? w->seen << up | 1 : 1;
         w->highest = n;
+        *rise = up;
         return ACCEPTED;
     }
     uint64_t bit = (uint64_t)1 << (w->highest - n);
@@ -37,6 +38,7 @@ uint32_t plain_c_step(struct window *w, uint32_t number, bool integrity)
     if (!integrity)
         return 24;
     w->seen |= bit;
+    *rise = 0;
     return ACCEPTED;
 }
 
@@ -45,7 +47,8 @@ static uint32_t be32(const uint8_t *s)
     return (uint32_t)s[0] << 24 | (uint32_t)s[1] << 16 | (uint32_t)s[2] << 8 | s[3];
 }
 
-uint32_t plain_c_packet(struct life lives[LIVES], uint32_t destination, uint8_t protocol, bool integrity, const uint8_t *s, size_t length)
+uint32_t plain_c_packet(struct life lives[LIVES], uint32_t destination, uint8_t protocol, bool integrity, const uint8_t *s, size_t length,
+                        uint64_t *rise)
 {
     uint32_t spi, number;
     if (protocol == AH) {
@@ -67,7 +70,7 @@ uint32_t plain_c_packet(struct life lives[LIVES], uint32_t destination, uint8_t 
     for (int i = 0; i < LIVES; i++) {
         struct life *life = &lives[i];
         if (life->spi == spi && life->destination == destination && life->protocol == protocol && life->used)
-            return plain_c_step(&life->window, number, integrity);
+            return plain_c_step(&life->window, number, integrity, rise);
     }
     return 11;
 }

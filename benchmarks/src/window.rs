@@ -6,7 +6,7 @@ const WINDOW: u64 = 64;
 const AH: u8 = 2;
 const ESP: u8 = 3;
 
-/// An accepted packet's number; a refused packet's is its refusal.
+/// An accepted packet's number; a refused packet's is its refusal, and its rise is not written.
 pub const ACCEPTED: u32 = 0;
 
 #[repr(C)]
@@ -27,7 +27,7 @@ pub struct Life {
 }
 
 #[no_mangle]
-pub extern "C" fn plain_rust_step(window: &mut Window, number: u32, integrity: bool) -> u32 {
+pub extern "C" fn plain_rust_step(window: &mut Window, number: u32, integrity: bool, rise: &mut u64) -> u32 {
     let number = u64::from(number);
     if number == 0 || number + WINDOW <= window.highest {
         return 8197;
@@ -39,6 +39,7 @@ pub extern "C" fn plain_rust_step(window: &mut Window, number: u32, integrity: b
         let up = number - window.highest;
         window.seen = if up < WINDOW { window.seen << up | 1 } else { 1 };
         window.highest = number;
+        *rise = up;
         return ACCEPTED;
     }
     let bit = 1 << (window.highest - number);
@@ -49,11 +50,12 @@ pub extern "C" fn plain_rust_step(window: &mut Window, number: u32, integrity: b
         return 24;
     }
     window.seen |= bit;
+    *rise = 0;
     ACCEPTED
 }
 
 /// # Safety
-/// The last two are where a packet begins and its length.
+/// `start` and `length` are those of a packet.
 #[no_mangle]
 pub unsafe extern "C" fn plain_rust_packet(
     lives: &mut [Life; LIVES],
@@ -62,6 +64,7 @@ pub unsafe extern "C" fn plain_rust_packet(
     integrity: bool,
     start: *const u8,
     length: usize,
+    rise: &mut u64,
 ) -> u32 {
     // SAFETY: as said above.
     match spi_and_number(protocol, unsafe { std::slice::from_raw_parts(start, length) }) {
@@ -69,7 +72,7 @@ pub unsafe extern "C" fn plain_rust_packet(
         Ok((spi, number)) => lives
             .iter_mut()
             .find(|life| life.spi == spi && life.destination == destination && life.protocol == protocol && life.used)
-            .map_or(11, |life| plain_rust_step(&mut life.window, number, integrity)),
+            .map_or(11, |life| plain_rust_step(&mut life.window, number, integrity, rise)),
     }
 }
 
