@@ -1,5 +1,7 @@
 // One DER element: a tag, a length in its shortest form, and contents, which in a constructed element are a list of elements.
 // The element check calls the list check and back; the levels that are left bound how deep, and the list goes by a loop.
+#![tactic(auto)]
+
 ghost use Rattle.std.specs.Prelude.{◌≡◌};
 ghost use Rattle.der.specs.Der.{tag_wrong, constructed, head_size, body_size, size, filled, element, is_element, is_name};
 

@@ -1,4 +1,6 @@
 // Telling apart what arrives at port 4500: keepalives, key exchange messages behind their marker, and ESP packets.
+#![tactic(auto)]
+
 ghost use Rattle.std.specs.Prelude.{◌≡◌};
 ghost use Rattle.port4500.specs.Port.{datagram, handed_on};
 

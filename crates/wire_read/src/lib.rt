@@ -1,5 +1,7 @@
 // Reading bytes: big-endian numbers, parts, comparison. Every function takes any slice and any place: a byte past the end
 // reads as 0, and a part past the end is empty.
+#![tactic(auto)]
+
 ghost use Rattle.std.specs.Prelude.{◌≡◌, get_or, take, drop};
 ghost use Rattle.wire_read.specs.Wire.{number_at, all_zero, equal};
 

@@ -1,5 +1,7 @@
 // Writing bytes: big-endian numbers, and what begins with its length. Every function takes any buffer and any place: what
 // does not fit is not written.
+#![tactic(auto)]
+
 ghost use Rattle.std.specs.Prelude.{◌≡◌, [], ◌∷◌};
 ghost use Rattle.wire_write.specs.Put.{bytes_of, head, headed, paste, put};
 
