@@ -1,39 +1,39 @@
-use Prim.Native.Nat.{ℕ, ◌+◌, ◌-◌, ◌≤◌}
+use Prim.Native.Nat.{◌+◌, ◌≤◌}
 use native.Mathlib.Omega.{arith}
-use mathlib.Core.Path.{◌≡◌, refl}
-use lib.ListN.{length, drop}
-use Rattle.der.specs.Der.{filled, element}
-use Rattle.der.proofs.Ways.{list-end, list-stop, list_on, list-within}
+use lib.ListN.{length}
+use Rattle.der.proofs.Ways.{element_deep, element_wrong, element-plain, element-filled, element_unfilled, list-end, list-stop, list_on, list-within}
 use Rattle.der.proofs.+element_list.Goals as goal
 
-abbrev list_at : ℕ → In 1 list-kinds.ps
-list_at t = and 1 list-kinds.ps (is 1 list-kinds.ps μ-list t) list-reads.Pre
+pub element-returns-then-levels-eq0 : goal.element-returns-then-levels-eq0
+element-returns-then-levels-eq0 t c = search element_deep
 
-abbrev list-Inv-loop : list-lts.invariant-loop
-list-Inv-loop levels s at₀ at = (at ≤ length s) × (filled (element levels) (drop at s) ≡ filled (element levels) s)
+pub element-returns-then-n-eq0 : goal.element-returns-then-n-eq0
+element-returns-then-n-eq0 t c = search element_wrong
 
-abbrev list-μ-loop : list-lts.decreases-loop
-list-μ-loop levels s at₀ at = length s - at
+pub element-returns-then-list : goal.element-returns-then-list
+element-returns-then-list t c = search element-filled
 
-pub returns-then-levels-eq0 : goal.returns-then-levels-eq0
-returns-then-levels-eq0 c = (omega arith, refl)
+pub element-returns-else-list : goal.element-returns-else-list
+element-returns-else-list t c = search element_unfilled
 
-pub returns-then-n-eq0 : goal.returns-then-n-eq0
-returns-then-n-eq0 c = (omega arith, tt)
+pub element-returns-else-constructed : goal.element-returns-else-constructed
+element-returns-else-constructed t c = search element-plain
 
-pub constructed-requires : goal.constructed-requires
-constructed-requires c = search list-stop
+pub list-returns-then-n-eq0 : goal.list-returns-then-n-eq0
+list-returns-then-n-eq0 t c = search list-stop
 
-pub head_size-requires : goal.head_size-requires
-head_size-requires c = let within : c.loop.at + c.element.result ≤ length c.args.s.now = search list-within in
+pub list-overflow_add-at : goal.list-overflow_add-at
+list-overflow_add-at t c =
+    let within : c.loop-at.at + c.element-n.result ≤ length c.args.s.now = search list-within in
     omega arith
 
-pub overflow_cast-head_size : goal.overflow_cast-head_size
-overflow_cast-head_size c = let within : c.loop.at + c.element.result ≤ length c.args.s.now = search list-within in
+pub list-loop-at-smaller : goal.list-loop-at-smaller
+list-loop-at-smaller t c =
+    let within : c.loop-at.at + c.element-n.result ≤ length c.args.s.now = search list-within in
     omega arith
 
-pub after-requires : goal.after-requires
-after-requires c = (search list-within, search list_on)
+pub list-loop-at-preserved : goal.list-loop-at-preserved
+list-loop-at-preserved t c = (search list-within, search list_on)
 
-pub body_size-requires : goal.body_size-requires
-body_size-requires c = search list-end
+pub list-returns : goal.list-returns
+list-returns t c = search list-end
