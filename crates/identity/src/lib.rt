@@ -1,4 +1,6 @@
 // The body of an identification payload: type, protocol, port, data.
+#![tactic(auto)]
+
 ghost use Rattle.std.specs.Prelude.{◌≡◌};
 ghost use Rattle.identity.specs.Identity.{one_to255, main_data, quick_data, port_zero, lawful, identity_code};
 

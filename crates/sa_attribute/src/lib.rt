@@ -1,4 +1,6 @@
 // The attributes of a transform: where they lie and what they say. A slice begins at an attribute.
+#![tactic(auto)]
+
 ghost use Rattle.std.specs.Prelude.{◌≡◌};
 ghost use Rattle.wire_read.specs.Parts.{parts};
 ghost use Rattle.sa_attribute.specs.Attributes.{sent_fixed, attribute_type, attribute_size, after_attribute, find, attribute, value, attribute_count};

@@ -1,4 +1,6 @@
 // How the attributes of a transform are to be coded. A slice begins at an attribute.
+#![tactic(auto)]
+
 ghost use Rattle.std.specs.Prelude.{◌≡◌, ◌-◌, get_or, eqb};
 ghost use Rattle.wire_read.specs.Wire.{number_at};
 ghost use Rattle.wire_read.specs.Tests.{if◌then◌else◌};

@@ -1,4 +1,6 @@
 // What a proposal and a transform say of themselves. Every function takes any bytes.
+#![tactic(auto)]
+
 ghost use Rattle.std.specs.Prelude.{◌≡◌};
 ghost use Rattle.sa_fields.specs.Fields.{proposal_number, protocol, spi, transform_count, transform_number, transform_id, attributes_of};
 

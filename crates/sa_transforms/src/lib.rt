@@ -1,4 +1,6 @@
 // The transforms of a proposal. A slice begins at a transform.
+#![tactic(auto)]
+
 ghost use Rattle.std.specs.Prelude.{◌≡◌};
 ghost use Rattle.sa_transforms.specs.Transforms.{next_wanted, transform_wrong, transform_code, transforms_code};
 
