@@ -4,14 +4,14 @@ ghost use Rattle.bench_words.specs.Hex.{digit_value, Decoding, Parting};
 
 use wire_read::{byte, equal};
 
-#[derive(Drop)]
+#[derive(Clone, Copy)]
 pub enum Decoded {
     // The place behind the last byte.
     To(usize),
     Wrong,
 }
 
-#[derive(Drop)]
+#[derive(Clone, Copy)]
 pub enum Parted {
     // The places behind the last byte of the first word and of the second.
     At { middle: usize, end: usize },

@@ -4,7 +4,7 @@ ghost use Rattle.bench_words.specs.Integrity.{integrity_of};
 
 use wire_read::equal;
 
-#[derive(Drop)]
+#[derive(Clone, Copy)]
 pub enum Integrity {
     Holds(bool),
     Wrong,

@@ -6,13 +6,13 @@ use crate::hex;
 use crate::hex::{Decoded, value};
 use wire_read::{be32, byte};
 
-#[derive(Drop)]
+#[derive(Clone, Copy)]
 pub enum Number {
     Is(u32),
     Wrong,
 }
 
-#[derive(Drop)]
+#[derive(Clone, Copy)]
 pub enum Cookie {
     Is(u64),
     Wrong,

@@ -5,7 +5,7 @@ ghost use Rattle.capture_buffer.specs.Buffer.{held_in, taken, grown, settled};
 use wire_read::{after, front};
 
 // Where what was read and is not yet taken lies in the buffer.
-#[derive(Drop)]
+#[derive(Clone, Copy)]
 pub struct Held {
     pub from: usize,
     pub to: usize,

@@ -7,19 +7,19 @@ ghost use Rattle.capture_header.specs.Headers.{number_in, in_order, file_header,
 use wire_read::{be16, be32, byte};
 
 // The order of the bytes in a file's numbers: the highest first, or the lowest.
-#[derive(Drop)]
+#[derive(Clone, Copy)]
 pub enum Order {
     Big,
     Little,
 }
 
-#[derive(Drop)]
+#[derive(Clone, Copy)]
 pub enum FileHeader {
     Read(Order),
     Refused(u16),
 }
 
-#[derive(Drop)]
+#[derive(Clone, Copy)]
 pub enum RecordHeader {
     Read {
         seconds: u32,
@@ -33,7 +33,7 @@ pub enum RecordHeader {
 }
 
 // What a file is by its header, for a person whose file is refused.
-#[derive(Drop)]
+#[derive(Clone, Copy)]
 pub enum HeaderCause {
     Nothing,
     Short,

@@ -13,7 +13,7 @@ use sequence_table::table;
 use sequence_table::table::{Key, Outcome, Table};
 use wire_read::{after, be32, byte, front};
 
-#[derive(Drop)]
+#[derive(Clone, Copy)]
 pub enum Listed {
     CutShort,
     NotIpv4,

@@ -7,14 +7,14 @@ use message_payload::{payload_code, rest_code};
 use wire_read::{after, be16, byte};
 
 // What a message is read as.
-#[derive(Drop)]
+#[derive(Clone, Copy)]
 pub enum Message {
     Refused(u16),
     Read { exchange: u8, count: u8 },
 }
 
 // Where a payload lies in its message, and its type.
-#[derive(Drop)]
+#[derive(Clone, Copy)]
 pub struct Payload {
     pub payloadtype: u8,
     pub start: usize,

@@ -8,7 +8,7 @@ use policy_lines::{
 use wire_read::byte;
 
 // What a book is read as: how many lines of each kind it has.
-#[derive(Drop)]
+#[derive(Clone, Copy)]
 pub enum Book {
     Refused(u16),
     Lawful { main: u8, quick: u8 },

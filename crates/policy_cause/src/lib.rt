@@ -13,7 +13,7 @@ use sa_fields::{attributes_of, transform_id};
 use wire_read::{after, front};
 
 // The first condition that a transform fails, with what was found and what the line wants; or that it suits.
-#[derive(Drop)]
+#[derive(Clone, Copy)]
 pub enum Cause {
     Suits,
     Id {
@@ -38,7 +38,7 @@ pub enum Cause {
 }
 
 // The first condition that a set fails; or that it suits. Where its protocols are the line's, each transform has its own cause.
-#[derive(Drop)]
+#[derive(Clone, Copy)]
 pub enum PairCause {
     Suits,
     Protocols,
@@ -46,7 +46,7 @@ pub enum PairCause {
 }
 
 // What a line wants of a transform. A main line's life types are of type 11, and it has no mode and no attribute 5.
-#[derive(Drop)]
+#[derive(Clone, Copy)]
 pub struct Wish {
     pub id: u8,
     pub lifetype: u16,

@@ -5,13 +5,13 @@ use policy_lines::LineNumber;
 use sa_fields::{ProposalNumber, TransformNumber};
 
 // A chosen transform for each proposal of the set, in the offer's order.
-#[derive(Drop)]
+#[derive(Clone, Copy)]
 pub enum Transforms {
     One(TransformNumber),
     Two(TransformNumber, TransformNumber),
 }
 
-#[derive(Drop)]
+#[derive(Clone, Copy)]
 pub enum Choice {
     Refused(u16),
     Chosen(ProposalNumber, LineNumber, Transforms),

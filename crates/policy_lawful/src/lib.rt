@@ -22,7 +22,7 @@ use wire_read::{byte, equal};
 
 // What differs first: which of the three cannot be read, with the number of its refusal; how the reply does not repeat the
 // offer; or what the book chooses instead. A protocol is that of the proposal in which it differs.
-#[derive(Drop)]
+#[derive(Clone, Copy)]
 pub enum Difference {
     Nothing,
     OfferRefused(u16),
@@ -62,7 +62,7 @@ pub enum Difference {
     NothingChosen,
 }
 
-#[derive(Drop)]
+#[derive(Clone, Copy)]
 pub enum Lawfulness {
     Refused(u16),
     Lawful,

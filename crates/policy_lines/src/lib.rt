@@ -5,7 +5,7 @@ ghost use Rattle.policy_lines.specs.Lines.{place, quick_start, quick_count, book
 use wire_read::{be32, byte};
 
 // Lines are counted from 1, among the main lines or among the quick lines; 0 is no line.
-#[derive(Drop)]
+#[derive(Clone, Copy)]
 pub struct LineNumber(pub u8);
 
 // The place of a line, counted from 0.

@@ -12,7 +12,7 @@ use wire_read::after;
 use wire_write::{put_be32, put_bytes, put_head, put_headed};
 
 // A refusal, or how many bytes were written.
-#[derive(Drop)]
+#[derive(Clone, Copy)]
 pub enum Outcome {
     Refused(u16),
     Written(usize),

@@ -13,7 +13,7 @@ use sa_proposals::transform_bytes;
 use wire_read::{after, be16, front};
 
 // The lowest transform of a proposal that suits a line. A transform's number may be 0, so that none is a case of its own.
-#[derive(Drop)]
+#[derive(Clone, Copy)]
 pub enum SuitingTransform {
     None,
     Lowest(TransformNumber),

@@ -14,14 +14,14 @@ use sa_items::{proposal, proposal_count, transform};
 use sa_sets::{set, set_count};
 
 // Whether there is something to say: of a lawful book and a readable message with an SA payload. Its exchange and how many payloads it has.
-#[derive(Drop)]
+#[derive(Clone, Copy)]
 pub enum Offer {
     Refused(u16),
     Readable { exchange: u8, count: u8 },
 }
 
 // Places of a set, of a line of the exchange's, of a proposal and of a transform, each counted from 0.
-#[derive(Drop)]
+#[derive(Clone, Copy)]
 pub struct Places {
     pub set: u8,
     pub line: u8,
@@ -30,7 +30,7 @@ pub struct Places {
 }
 
 // What is said at places: that the set's protocols are not the line's, or the transform's own cause.
-#[derive(Drop)]
+#[derive(Clone, Copy)]
 pub enum Why {
     Refused(u16),
     NoSuchPlace,

@@ -6,7 +6,7 @@ ghost use Rattle.port4500.specs.Port.{datagram, handed_on};
 
 use wire_read::{after, equal, front};
 
-#[derive(Drop)]
+#[derive(Clone, Copy)]
 pub enum Datagram {
     Keepalive,
     // Where the key exchange message lies in the datagram.

@@ -9,13 +9,13 @@ use sa_fields::{ProposalNumber, TransformNumber};
 use wire_read::front;
 use wire_write::put_bytes;
 
-#[derive(Drop)]
+#[derive(Clone, Copy)]
 pub enum Role {
     Initiator,
     Responder,
 }
 
-#[derive(Drop)]
+#[derive(Clone, Copy)]
 pub enum State {
     Idle,
     Sent,
@@ -25,7 +25,7 @@ pub enum State {
 }
 
 // What an end is given once: cookies, its SPIs, and the first bytes of two arrays as its book and its nonce.
-#[derive(Drop)]
+#[derive(Clone, Copy)]
 pub struct Own {
     pub role: Role,
     pub icookie: u64,
@@ -39,14 +39,14 @@ pub struct Own {
 }
 
 // The SPIs of one side, in the order of the set's proposals.
-#[derive(Drop)]
+#[derive(Clone, Copy)]
 pub enum Spis {
     Alone(u32),
     Both(u32, u32),
 }
 
 // What both ends hold once it is agreed.
-#[derive(Drop)]
+#[derive(Clone, Copy)]
 pub struct Agreed {
     pub set: ProposalNumber,
     pub transforms: Transforms,
@@ -55,7 +55,7 @@ pub struct Agreed {
 }
 
 // What changes: the state, how often the kept message was sent, the message ID, and how much of the kept buffers is a message.
-#[derive(Drop)]
+#[derive(Clone, Copy)]
 pub struct Progress {
     pub state: State,
     pub sends: u8,
@@ -65,14 +65,14 @@ pub struct Progress {
     pub agreed: Agreed,
 }
 
-#[derive(Drop)]
+#[derive(Clone, Copy)]
 pub struct End {
     pub own: Own,
     pub progress: Progress,
 }
 
 // What `fresh` gives: a number, 0 for done, and the end.
-#[derive(Drop)]
+#[derive(Clone, Copy)]
 pub struct Made {
     pub number: u16,
     pub end: End,

@@ -6,14 +6,14 @@ use quick_end::{End, Progress, State};
 use wire_read::front;
 
 // A message to send of so many bytes, nothing to send, or a refusal.
-#[derive(Drop)]
+#[derive(Clone, Copy)]
 pub enum StepAnswer {
     Send(u16),
     Nothing,
     Refused(u16),
 }
 
-#[derive(Drop)]
+#[derive(Clone, Copy)]
 pub struct Stepped {
     pub end: End,
     pub answer: StepAnswer,

@@ -14,14 +14,14 @@ use wire_read::front;
 use wire_write::{put_be32, put_be64, put_bytes, put_head, put_headed};
 
 // What a longer message proposes: the offer by the own book, or a reply with these transforms.
-#[derive(Drop)]
+#[derive(Clone, Copy)]
 pub enum Proposals {
     Offer,
     Reply(Transforms),
 }
 
 // What writing a longer message answers: how long it is, or that a part is too long for one and nothing is written.
-#[derive(Drop)]
+#[derive(Clone, Copy)]
 pub enum Written {
     Size(u16),
     TooLong,

@@ -7,10 +7,10 @@ ghost use Rattle.sa_fields.specs.Fields.{proposal_number, protocol, spi, transfo
 use wire_read::{after, byte, front};
 
 // Proposal numbers and transform numbers are separate countings.
-#[derive(Drop)]
+#[derive(Clone, Copy)]
 pub struct ProposalNumber(pub u8);
 
-#[derive(Drop)]
+#[derive(Clone, Copy)]
 pub struct TransformNumber(pub u8);
 
 pub fn proposal_number(p: &[u8]) -> ProposalNumber

@@ -1,4 +1,6 @@
 // The proposals of a set and the transforms of a proposal, which lie one behind the other. Every function takes any bytes.
+#![tactic(auto)]
+
 ghost use Rattle.std.specs.Prelude.{◌≡◌};
 ghost use Rattle.wire_read.specs.Parts.{skip, parts};
 ghost use Rattle.sa_items.specs.Items.{numbered, first_item, after_item, proposal, proposal_count, transform, transform_numbered};

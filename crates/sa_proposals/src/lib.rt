@@ -1,5 +1,7 @@
 // The body of an SA payload: proposals and their transforms, checked in reading order. A slice begins at a proposal, but for
 // `offer_code`, which takes the body.
+#![tactic(auto)]
+
 ghost use Rattle.std.specs.Prelude.{◌≡◌};
 ghost use Rattle.sa_proposals.specs.Proposals.{proposal_wrong, has, with, none, set_before, order_wrong, protocol_wrong, spi_wrong, count_wrong, transform_bytes, inner_code, proposal_code, proposals_code, offer_code};
 
@@ -7,7 +9,7 @@ use sa_transforms::transforms_code;
 use wire_read::{after, be16, be32, byte, front};
 
 // Which protocols a set has.
-#[derive(Drop)]
+#[derive(Clone, Copy)]
 struct Protocols {
     isakmp: bool,
     ah: bool,

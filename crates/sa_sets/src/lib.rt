@@ -1,4 +1,6 @@
 // The sets of an SA payload's body that reads. Every function takes any bytes.
+#![tactic(auto)]
+
 ghost use Rattle.std.specs.Prelude.{◌≡◌};
 ghost use Rattle.wire_read.specs.Parts.{skip, parts};
 ghost use Rattle.sa_items.specs.Items.{numbered};

@@ -6,7 +6,7 @@ ghost use Rattle.sequence_packet.specs.Packets.{known, ah, esp, read};
 
 use wire_read::{be16, be32, byte};
 
-#[derive(Drop)]
+#[derive(Clone, Copy)]
 pub enum Packet {
     Read { spi: u32, number: u32 },
     Refused(u16),

@@ -5,13 +5,13 @@ ghost use Rattle.sequence_record.specs.Receive.{new_receive, behind, shifted, ju
 
 // A number's place in the window is how far it lies below the highest: bit 0 of the window is the highest itself.
 #[repr(C)]
-#[derive(Drop)]
+#[derive(Clone, Copy)]
 pub struct Receive {
     pub highest: u64,
     pub window: u64,
 }
 
-#[derive(Drop)]
+#[derive(Clone, Copy)]
 pub enum Verdict {
     // By how much the highest number rose, 0 where it did not.
     Accepted(u64),
@@ -19,13 +19,13 @@ pub enum Verdict {
 }
 
 // A step's verdict, and the record after it.
-#[derive(Drop)]
+#[derive(Clone, Copy)]
 pub struct Judged {
     pub receive: Receive,
     pub verdict: Verdict,
 }
 
-#[derive(Drop)]
+#[derive(Clone, Copy)]
 pub struct LossLine {
     pub highest: u64,
     pub span: u64,

@@ -12,7 +12,7 @@ pub const WORDS: usize = 6;
 
 pub type Table = [u64; ROOMS * WORDS];
 
-#[derive(Drop)]
+#[derive(Clone, Copy)]
 pub struct Key {
     pub destination: u32,
     pub protocol: u8,
@@ -20,25 +20,25 @@ pub struct Key {
 }
 
 // What an entry keeps of its life beside its key. `counter` is the number last handed out for sending.
-#[derive(Drop)]
+#[derive(Clone, Copy)]
 pub struct Entry {
     pub receive: Receive,
     pub counter: u64,
 }
 
-#[derive(Drop)]
+#[derive(Clone, Copy)]
 pub enum Outcome {
     Done,
     Refused(u16),
 }
 
-#[derive(Drop)]
+#[derive(Clone, Copy)]
 pub enum Sending {
     Number(u32),
     Refused(u16),
 }
 
-#[derive(Drop)]
+#[derive(Clone, Copy)]
 pub enum Counted {
     Line(LossLine),
     Refused(u16),
