@@ -1,4 +1,6 @@
 // Reading a message: its header, then its payloads one behind the other, each with its body.
+#![tactic(auto)]
+
 ghost use Rattle.std.specs.Prelude.{◌≡◌, ◌-◌, ◌≤◌};
 ghost use Rattle.message_chain.specs.Message.{chain, exchange_and_count, message, payload_at};
 

@@ -1,4 +1,6 @@
 // One payload, its body, and what may follow the last. A slice begins at the payload.
+#![tactic(auto)]
+
 ghost use Rattle.std.specs.Prelude.{◌≡◌};
 ghost use Rattle.message_payload.specs.Payloads.{type_wrong, length_out, hash_code, nonce_code, certificate_code, body_code, body_of, payload_code, rest_code};
 

@@ -1,4 +1,6 @@
 // The policy book: a count, main lines, a count, quick lines. Every function takes any bytes.
+#![tactic(auto)]
+
 ghost use Rattle.std.specs.Prelude.{◌≡◌};
 ghost use Rattle.policy_book.specs.Book.{main_line_lawful, quick_line_lawful, main_lines_lawful, quick_lines_lawful, book_in_front, book_read};
 

@@ -1,4 +1,6 @@
 // The lines of a policy book: how many there are, where they lie and what they say. Every function takes any bytes.
+#![tactic(auto)]
+
 ghost use Rattle.std.specs.Prelude.{◌≡◌};
 ghost use Rattle.policy_lines.specs.Lines.{place, quick_start, quick_count, book_size, main_seconds, quick_at, quick_protocols, quick_mode, quick_seconds};
 

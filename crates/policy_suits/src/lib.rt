@@ -1,4 +1,6 @@
 // Which transform, and which set, suits which line of the book.
+#![tactic(auto)]
+
 ghost use Rattle.std.specs.Prelude.{◌≡◌};
 ghost use Rattle.policy_lines.specs.Lines.{place};
 ghost use Rattle.policy_suits.specs.Suits.{value_is, is_unit, find_duration, seconds_within, has_kilobytes, kilobytes_some, nothing_surplus, main_values, main_suits, quick_id, quick_authentication, suits_quick_line, suits_line, lowest_in, lowest_transform, has_transform, protocols_alone, protocols_both, protocols_suit, set_suits};

@@ -79,7 +79,7 @@ flatten-append [] ys = refl
 flatten-append (x ∷ xs) ys = rw (flatten-append xs ys) (sym (append_assoc x (flatten xs) (flatten ys)))
 
 -- set_end goes by places: it ends behind the proposals at the front
-set-end : (n : ℕ) (a : List ℕ) {exchange least : ℕ} {ps : List (List ℕ)} → Rising exchange least ps → (left : ℕ) → length ps ≤ left →
+set-end : (n : ℕ) {exchange : ℕ} (a : List ℕ) {least : ℕ} {ps : List (List ℕ)} → Rising exchange least ps → (left : ℕ) → length ps ≤ left →
     set_end left n (a ++ flatten ps) (length a) ≡ length a + length (flatten (front n ps))
 unfolding set_end front flatten
 set-end n a end zero h = omega arith
