@@ -28,10 +28,10 @@ pub else_next : (first next : Cause) → first ≡ Suits → next ≡ (first or_
 unfolding ◌or_else◌
 else_next first next h = rw h
 
--- any variant but `Suits`, which is number 0
-pub else_first : (first next : Cause) → OneOf (1 ∷ 2 ∷ 3 ∷ 4 ∷ 5 ∷ 6 ∷ []) (tag_of the_type first) → first ≡ (first or_else next)
+-- any variant but `Suits`
+pub else_first : (first next : Cause) → (first ≡ Suits → ⊥) → first ≡ (first or_else next)
 unfolding ◌or_else◌
-else_first Suits next h = absurd (miss (1 ∷ 2 ∷ 3 ∷ 4 ∷ 5 ∷ 6 ∷ []) 0 tt h)
+else_first Suits next h = absurd (h refl)
 else_first (Id found wanted) next h = refl
 else_first (Missing attributetype) next h = refl
 else_first (Value attributetype found wanted) next h = refl

@@ -1,4 +1,6 @@
 // Why a transform does not suit a line of the book, and why a set does not: by the tests of policy_suits, one after the other.
+#![tactic(auto)]
+
 ghost use Rattle.std.specs.Prelude.{◌≡◌};
 ghost use Rattle.policy_lines.specs.Lines.{place};
 ghost use Rattle.policy_cause.specs.Causes.{◌or_else◌, wish_of, main_wanted, quick_wanted, wanted, id_cause, is_there, missing_one, missing_cause, value_one, value_cause, wanted_count, type_wanted, is_wanted, first_surplus, surplus_cause, seconds_cause, kilobytes_cause, attributes_cause, wish_cause, transform_cause, pair_cause};

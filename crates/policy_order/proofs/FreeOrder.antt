@@ -21,26 +21,26 @@ use Rattle.sa_wholes.specs.Wholes as Wholes
 use Rattle.sa_wholes.proofs.Wholes.{reads-orderly, orderly-reads, orderly-wholes, alike_same}
 use Rattle.sa_transforms.specs.Transforms.{next_wanted, transform_wrong, transform_code}
 use Rattle.sa_transforms.proofs.Laws.{LawfulTransform}
-use Rattle.policy_suiting.specs.Suiting.{Offered, PutIn, in_front_lem, behind, Exactly, nothing, one_more, told, offered_list, Matches, TransformSuits, main, quick}
+use Rattle.policy_suiting.specs.Suiting.{Offered, PutIn, at_front, behind, Exactly, nothing, one_more, told, offered_list, Matches, TransformSuits, main, quick}
 
 -- ---- lists that have exactly the same
 
 module _ {A : Type 0} where
   -- two that were put in may be taken out in either order
-  put_swap : {x y : A} {one two all : List A} → PutIn x one two → PutIn y two all → (other : List A) × PutIn y one other × PutIn x other all
-  put_swap p in_front_lem = (_, in_front_lem, behind p)
-  put_swap in_front_lem (behind q) = (_, q, in_front_lem)
-  put_swap (behind p) (behind q) = let (other, f, g) = put_swap p q in (_, behind f, behind g)
+  put_swap : {x y : A} (one : List A) {two all : List A} → PutIn x one two → PutIn y two all → (other : List A) × PutIn y one other × PutIn x other all
+  put_swap one p at_front = (_, at_front, behind p)
+  put_swap one at_front (behind q) = (_, q, at_front)
+  put_swap one (behind {rest = rest} p) (behind q) = let (other, f, g) = put_swap rest p q in (_, behind f, behind g)
 
   take_out : {x : A} {rest whole found : List A} → PutIn x rest whole → Exactly whole found → (others : List A) × PutIn x others found × Exactly rest others
-  take_out in_front_lem (one_more e q) = (_, q, e)
+  take_out at_front (one_more e q) = (_, q, e)
   take_out (behind p) (one_more e q) =
       let (others, f, g) = take_out p e in
-      let (more, h, k) = put_swap f q in
+      let (more, h, k) = put_swap _ f q in
       (more, k, one_more g h)
 
   put_first : {x : A} {rest whole found : List A} → PutIn x rest whole → Exactly rest found → Exactly whole (x ∷ found)
-  put_first in_front_lem e = one_more e in_front_lem
+  put_first at_front e = one_more e at_front
   put_first (behind p) (one_more e q) = one_more (put_first p e) (behind q)
 
   exactly_back : {wanted found : List A} → Exactly wanted found → Exactly found wanted
@@ -53,7 +53,7 @@ module _ {A : Type 0} where
 
 module _ {A B : Type 0} (f : A → B) where
   put_map : {x : A} {rest whole : List A} → PutIn x rest whole → PutIn (f x) (map f rest) (map f whole)
-  put_map in_front_lem = in_front_lem
+  put_map at_front = at_front
   put_map (behind p) = behind (put_map p)
 
   exactly_map : {wanted found : List A} → Exactly wanted found → Exactly (map f wanted) (map f found)
@@ -64,7 +64,7 @@ module _ {A B : Type 0} (f : A → B) where
 
 joined-put : {w : List ℕ} {rest ws : List (List ℕ)} → PutIn w rest ws → length (joined ws) ≡ length w + length (joined rest)
 unfolding joined
-joined-put {w} {rest} in_front_lem = length-append w (joined rest)
+joined-put {w} {rest} at_front = length-append w (joined rest)
 joined-put {w} (behind {y = v} {rest = rest} {whole = ws} p) = omega (arith, length-append v (joined ws), length-append v (joined rest), joined-put p)
 
 joined-long : {ws qs : List (List ℕ)} → Exactly ws qs → length (joined qs) ≡ length (joined ws)
@@ -76,7 +76,7 @@ module _ (exchange : ℕ) where
   all-put : {w : List ℕ} {rest ws : List (List ℕ)} → PutIn w rest ws →
       attributes_of_all exchange ws ≡ attributes_in exchange w + attributes_of_all exchange rest
   unfolding attributes_of_all
-  all-put in_front_lem = refl
+  all-put at_front = refl
   all-put (behind p) = omega (arith, all-put p)
 
   all_same : {ws qs : List (List ℕ)} → Exactly ws qs → attributes_of_all exchange qs ≡ attributes_of_all exchange ws
@@ -85,7 +85,7 @@ module _ (exchange : ℕ) where
   all_same (one_more e p) = omega (arith, all-put p, all_same e)
 
   apart_put : {v w : List ℕ} {rest ws : List (List ℕ)} → PutIn w rest ws → alike exchange v w ≡ false → Apart exchange v rest → Apart exchange v ws
-  apart_put in_front_lem h a = from_one h a
+  apart_put at_front h a = from_one h a
   apart_put (behind p) h (from_one g a) = from_one g (apart_put p h a)
 
   apart_same : {v : List ℕ} {ws qs : List (List ℕ)} → Exactly ws qs → Apart exchange v ws → Apart exchange v qs
@@ -94,7 +94,7 @@ module _ (exchange : ℕ) where
 
   orderly-put : {w : List ℕ} {rest ws : List (List ℕ)} → PutIn w rest ws → Whole exchange w → Apart exchange w rest → Orderly exchange rest →
       Orderly exchange ws
-  orderly-put in_front_lem whole apart orderly = Wholes.one_more whole apart orderly
+  orderly-put at_front whole apart orderly = Wholes.one_more whole apart orderly
   orderly-put {w} (behind {y = v} p) whole (from_one h apart) (Wholes.one_more also others orderly) =
       Wholes.one_more also (apart_put p (alike_same exchange v w ∙ h) others) (orderly-put p whole apart orderly)
 

@@ -19,7 +19,7 @@ use Rattle.sa_wholes.specs.Wholes.{joined, One, Whole, alone, pair, attributes_i
 use Rattle.sa_wholes.proofs.Wholes.{in_alone, in_pair}
 use Rattle.sa_wholes.proofs.Heads.{type_head, take_head, after-head, value-head}
 use Rattle.policy_suits.specs.Suits.{find_duration}
-use Rattle.policy_suiting.specs.Suiting.{Offered, single, lifetime, told, in_front_lem}
+use Rattle.policy_suiting.specs.Suiting.{Offered, single, lifetime, told, at_front}
 use Rattle.policy_suiting.proofs.Exactly.{Within, within_more, within_split, none_within, sum}
 
 -- ---- the life type of an exchange
@@ -114,7 +114,7 @@ module _ (exchange t : ℕ) (no-life : is_life_type exchange t ≡ false) (no_du
   single_sought (suc k) (one_more {ws = ws} (alone {a} o l d) others rest) few =
       rw (find-step o (joined ws) k t, told-alone exchange a l)
       (by_test (eqb (attribute_type a) t)
-      (λ e. rw (e, eqb-true (attribute_type a) t e) (there o.long (_, in_front_lem)))
+      (λ e. rw (e, eqb-true (attribute_type a) t e) (there o.long (_, at_front)))
       (λ e. rw e (sought_on (single (attribute_type a) (value a)) (λ v s. eqb-false (attribute_type a) t e (same_type s))
       (single_sought k rest (omega (arith, in_alone exchange a l))))))
   single_sought zero (one_more (pair {a} {d} o p l m) others rest) few = absurd (omega (arith, in_pair exchange d o l))
@@ -154,7 +154,7 @@ module _ {exchange lifetype : ℕ} (known : LifeType exchange lifetype) (unit : 
         told-pair d o l,
       )
       (by_test (eqb (value a) unit)
-      (λ e. rw (e, eqb-true (value a) unit e) (there p.long (_, in_front_lem)))
+      (λ e. rw (e, eqb-true (value a) unit e) (there p.long (_, at_front)))
       (λ e. rw e (sought_on (lifetime (value a) (value d)) (λ v s. eqb-false (value a) unit e (same_unit s))
       (lifetime_sought k rest (omega (arith, in_pair exchange d o l))))))
 
@@ -250,6 +250,6 @@ module _ (exchange : ℕ) where
       omega (
         arith,
         length-append w (joined ws),
-        whole_room whole (λ t v e. fixed t v (rw e (_, in_front_lem))),
+        whole_room whole (λ t v e. fixed t v (rw e (_, at_front))),
         joined-room rest (λ t v m. fixed t v (within_more (told exchange w) m)),
       )

@@ -11,7 +11,7 @@ use lib.Dec.{eqb}
 use borrow.Author.Tests.{eqb-true, eq-eqb, not-true}
 use Rattle.wire_read.specs.Parts.{skip, parts}
 use Rattle.wire_read.proofs.Tests.{clash, both, by_test}
-use Rattle.policy_suiting.specs.Suiting.{listed, Offered, single, lifetime, PutIn, in_front_lem, behind, Exactly, nothing, one_more}
+use Rattle.policy_suiting.specs.Suiting.{listed, Offered, single, lifetime, PutIn, at_front, behind, Exactly, nothing, one_more}
 
 -- ---- lists of parts
 
@@ -42,7 +42,7 @@ sum weight (x ∷ l) = weight x + sum weight l
 module _ {A : Type 0} where
   pub put-sum : (weight : A → ℕ) {x : A} {rest whole : List A} → PutIn x rest whole → sum weight whole ≡ weight x + sum weight rest
   unfolding sum
-  put-sum weight in_front_lem = refl
+  put-sum weight at_front = refl
   put-sum weight (behind p) = omega (arith, put-sum weight p)
 
   pub within_more : (y : A) {x : A} {whole : List A} → Within x whole → Within x (y ∷ whole)
@@ -50,17 +50,17 @@ module _ {A : Type 0} where
 
   -- what is in the whole is what was put in, or was there before
   pub put_split : {x y : A} {rest whole : List A} → PutIn x rest whole → Within y whole → (x ≡ y) ⊎ Within y rest
-  put_split in_front_lem (others, in_front_lem) = inl refl
-  put_split in_front_lem (others, behind q) = inr (_, q)
-  put_split (behind p) (others, in_front_lem) = inr (_, in_front_lem)
+  put_split at_front (others, at_front) = inl refl
+  put_split at_front (others, behind q) = inr (_, q)
+  put_split (behind p) (others, at_front) = inr (_, at_front)
   put_split (behind {y = z} p) (others, behind q) = ⊎_elim inl (λ w. inr (within_more z w)) (put_split p (_, q))
 
   pub within_split : {x y : A} {rest : List A} → Within y (x ∷ rest) → (x ≡ y) ⊎ Within y rest
-  within_split m = put_split in_front_lem m
+  within_split m = put_split at_front m
 
   put_keeps : {x y : A} {rest whole : List A} → PutIn x rest whole → Within y rest → Within y whole
-  put_keeps {x} in_front_lem w = within_more x w
-  put_keeps (behind p) (others, in_front_lem) = (_, in_front_lem)
+  put_keeps {x} at_front w = within_more x w
+  put_keeps (behind p) (others, at_front) = (_, at_front)
   put_keeps (behind {y = z} p) (others, behind q) = within_more z (put_keeps p (_, q))
 
   pub exactly_sum : (weight : A → ℕ) {wanted found : List A} → Exactly wanted found → sum weight found ≡ sum weight wanted
@@ -69,7 +69,7 @@ module _ {A : Type 0} where
   exactly_sum weight (one_more {x} e p) = put-sum weight p ∙ ap (λ (n : ℕ). weight x + n) (exactly_sum weight e)
 
   put_length : {x : A} {rest whole : List A} → PutIn x rest whole → length whole ≡ suc (length rest)
-  put_length in_front_lem = refl
+  put_length at_front = refl
   put_length (behind p) = ap suc (put_length p)
 
   pub exactly_length : {wanted found : List A} → Exactly wanted found → length found ≡ length wanted
@@ -78,12 +78,12 @@ module _ {A : Type 0} where
 
   pub exactly_there : {wanted found : List A} {x : A} → Exactly wanted found → Within x wanted → Within x found
   exactly_there nothing (others, p) = (others, p)
-  exactly_there (one_more e p) (others, in_front_lem) = (_, p)
+  exactly_there (one_more e p) (others, at_front) = (_, p)
   exactly_there (one_more e p) (others, behind q) = put_keeps p (exactly_there e (_, q))
 
   pub exactly_wanted : {wanted found : List A} {x : A} → Exactly wanted found → Within x found → Within x wanted
   exactly_wanted nothing (others, p) = (others, p)
-  exactly_wanted (one_more {x = y} e p) w = ⊎_elim (λ same. rw (← same) (_, in_front_lem)) (λ r. within_more y (exactly_wanted e r)) (put_split p w)
+  exactly_wanted (one_more {x = y} e p) w = ⊎_elim (λ same. rw (← same) (_, at_front)) (λ r. within_more y (exactly_wanted e r)) (put_split p w)
 
   pub none_within : {x : A} → Within x [] → ⊥
   none_within (rest, p) = absurd (omega (arith, put_length p))
@@ -96,13 +96,13 @@ module _ {A : Type 0} where
   no_more a m = absurd (none_within m)
 
   pub and-also : {w : A} {wanted found : List A} → Within w found → AllWithin wanted found → AllWithin (w ∷ wanted) found
-  and-also m f a (others, in_front_lem) = m
+  and-also m f a (others, at_front) = m
   and-also m f a (others, behind q) = f a (_, q)
 
   -- one list behind the other
   pub all_both : (a : List A) {b found : List A} → AllWithin a found → AllWithin b found → AllWithin (a ++ b) found
   all_both [] f g = g
-  all_both (x ∷ a) f g = and-also (f x (_, in_front_lem)) (all_both a (λ y m. f y (within_more x m)) g)
+  all_both (x ∷ a) f g = and-also (f x (_, at_front)) (all_both a (λ y m. f y (within_more x m)) g)
 
   pub within-behind : (a : List A) {b : List A} {x : A} → Within x b → Within x (a ++ b)
   within-behind [] m = m
@@ -148,15 +148,15 @@ kind_own (lifetime t v) = eq-eqb t t refl
 pub other_kinds : (a b : Offered) (l : List Offered) → none_of a l ≡ true → Within b l → same_kind a b ≡ true → ⊥
 unfolding none_of
 other_kinds a b [] h m e = none_within m
-other_kinds a b (c ∷ l) h (others, in_front_lem) e = clash (sym (not-true _ (both (not (same_kind a b)) (none_of a l) h).0) ∙ e)
+other_kinds a b (c ∷ l) h (others, at_front) e = clash (sym (not-true _ (both (not (same_kind a b)) (none_of a l) h).0) ∙ e)
 other_kinds a b (c ∷ l) h (others, behind q) e = other_kinds a b l (both (not (same_kind a c)) (none_of a l) h).1 (_, q) e
 
 pub one-of_kind : (l : List Offered) (a b : Offered) → apart l ≡ true → Within a l → Within b l → same_kind a b ≡ true → a ≡ b
 unfolding apart
 one-of_kind [] a b h m n e = absurd (none_within m)
-one-of_kind (c ∷ l) a b h (others, in_front_lem) (others', in_front_lem) e = refl
-one-of_kind (c ∷ l) a b h (others, in_front_lem) (others', behind q) e = absurd (other_kinds a b l (both (none_of a l) (apart l) h).0 (_, q) e)
-one-of_kind (c ∷ l) a b h (others, behind q) (others', in_front_lem) e =
+one-of_kind (c ∷ l) a b h (others, at_front) (others', at_front) e = refl
+one-of_kind (c ∷ l) a b h (others, at_front) (others', behind q) e = absurd (other_kinds a b l (both (none_of a l) (apart l) h).0 (_, q) e)
+one-of_kind (c ∷ l) a b h (others, behind q) (others', at_front) e =
     absurd (other_kinds b a l (both (none_of b l) (apart l) h).0 (_, q) (kind_back a b e))
 one-of_kind (c ∷ l) a b h (others, behind q) (others', behind r) e = one-of_kind l a b (both (none_of c l) (apart l) h).1 (_, q) (_, r) e
 
@@ -169,7 +169,7 @@ module _ (weight : Offered → ℕ) (some : (a : Offered) → 1 ≤ weight a) wh
   gathered [] (x ∷ found) h f e = absurd (omega (arith, some x))
   gathered (w ∷ wanted) found h f e =
       let two = both (none_of w wanted) (apart wanted) h in
-      let m = f w (_, in_front_lem) in
+      let m = f w (_, at_front) in
       let rest : AllWithin wanted m.0 = λ a n. ⊎_elim
       (λ same. absurd (other_kinds w a wanted two.0 n (rw (← same) (kind_own w))))
       (λ r. r) (put_split m.1 (f a (within_more w n))) in

@@ -15,7 +15,7 @@ use Rattle.sa_coding.specs.Coding.{is_duration, is_life_type}
 use Rattle.sa_wholes.specs.Wholes.{wholes}
 use Rattle.sa_wholes.proofs.Wholes.{Reads}
 use Rattle.policy_suits.specs.Suits.{present, value_is, find_duration, seconds_of, kilobytes_of, seconds_within, has_kilobytes, kilobytes_some, nothing_surplus}
-use Rattle.policy_suiting.specs.Suiting.{Offered, single, lifetime, told, offered_list, in_front_lem, Exactly, seconds, kilobytes, IfPresent, absent, at_least_one}
+use Rattle.policy_suiting.specs.Suiting.{Offered, single, lifetime, told, offered_list, at_front, Exactly, seconds, kilobytes, IfPresent, absent, at_least_one}
 use Rattle.policy_suiting.proofs.Exactly.{Within, sum, exactly_sum, exactly_there, exactly_wanted, AllWithin, no_more, and-also, same_kind, apart, none_of, kind_own, other_kinds, one-of_kind}
 use Rattle.policy_suiting.proofs.AttributeList.{LifeType, Sought, there, missing, single_sought, lifetime_sought, weight, count_weight, AllFixed, room, joined-room}
 
@@ -160,6 +160,6 @@ module _ {exchange lifetype : ℕ} (known : LifeType exchange lifetype) (s : Lis
       (λ e. e) in
       rw none (refl, eq-eqb _ _ (count_in ∙ exactly_sum weight exactly))
   says-kilobytes wanted (at_least_one {duration} least) once exactly =
-      let found = lifetime-there (once duration) exactly 2 duration (_, in_front_lem) in
+      let found = lifetime-there (once duration) exactly 2 duration (_, at_front) in
       let count : sum weight (kilobytes duration ∷ wanted) ≡ sum weight wanted + 2 = kilobytes_weigh duration wanted in
       rw (long-kilobytes found.0, found.1) (le-leb 1 duration least, eq-eqb _ _ (count_in ∙ exactly_sum weight exactly ∙ count))

@@ -16,7 +16,7 @@ use Rattle.sa_proposals.proofs.Laws.{Item}
 use Rattle.sa_items.specs.Items.{first_item, after_item, proposal, proposal_count, transform}
 use Rattle.sa_items.proofs.Laws.{transform-lawful, numbers-rise}
 use Rattle.policy_suits.specs.Suits.{suits_line, transform_suits, lowest, protocols_alone, protocols_both, protocols_suit, set_suits}
-use Rattle.policy_suiting.specs.Suiting.{protocol_list, in_front_lem, behind, Exactly, nothing, one_more, TransformSuits, main, quick, line_protocols, Suits, LowestSuiting}
+use Rattle.policy_suiting.specs.Suiting.{protocol_list, at_front, behind, Exactly, nothing, one_more, TransformSuits, main, quick, line_protocols, Suits, LowestSuiting}
 use Rattle.policy_suiting.proofs.Laws.{First, none, here, lowest-is, Passes, transform_low, suits_passed, passed_suits}
 use Rattle.policy_suiting.proofs.Exactly.{listed-count, listed_at, exactly_length}
 use Rattle.policy_suiting.proofs.TransformLaws.{main-says, says-main, quick-says, says-quick}
@@ -87,11 +87,11 @@ two-listed (a ∷ b ∷ []) h = refl
 two-listed (a ∷ b ∷ c ∷ l) h = absurd (omega arith)
 
 exactly_one : {w a : ℕ} → Exactly (w ∷ []) (a ∷ []) → a ≡ w
-exactly_one (one_more nothing in_front_lem) = refl
+exactly_one (one_more nothing at_front) = refl
 
 exactly_two : {v w a b : ℕ} → Exactly (v ∷ w ∷ []) (a ∷ b ∷ []) → ((a ≡ v) × (b ≡ w)) ⊎ ((a ≡ w) × (b ≡ v))
-exactly_two (one_more (one_more nothing in_front_lem) in_front_lem) = inl (refl, refl)
-exactly_two (one_more (one_more nothing in_front_lem) (behind in_front_lem)) = inr (refl, refl)
+exactly_two (one_more (one_more nothing at_front) at_front) = inl (refl, refl)
+exactly_two (one_more (one_more nothing at_front) (behind at_front)) = inr (refl, refl)
 
 module _ (set : List ℕ) where
   count-protocols : length (protocol_list set) ≡ proposal_count set
@@ -112,7 +112,7 @@ module _ (set : List ℕ) where
   unfolding protocols_alone
   alone-says wanted h =
       let two = both (eqb (proposal_count set) 1) (eqb (protocol (proposal 0 set)) wanted) h in
-      rw (one-protocol (eqb-true _ _ two.0), eqb-true (protocol (proposal 0 set)) wanted two.1) (one_more nothing in_front_lem)
+      rw (one-protocol (eqb-true _ _ two.0), eqb-true (protocol (proposal 0 set)) wanted two.1) (one_more nothing at_front)
 
   says-alone : (wanted : ℕ) → Exactly (wanted ∷ []) (protocol_list set) → protocols_alone wanted set ≡ true
   unfolding protocols_alone
@@ -128,10 +128,10 @@ module _ (set : List ℕ) where
       let outer = both (eqb (proposal_count set) 2) (eqb a 2 && eqb b 3 || eqb a 3 && eqb b 2) h in
       rw (two-protocols (eqb-true _ _ outer.0))
       (by_test (eqb a 2 && eqb b 3)
-      (λ e. let two = both (eqb a 2) (eqb b 3) e in rw (eqb-true a 2 two.0, eqb-true b 3 two.1) (one_more (one_more nothing in_front_lem) in_front_lem))
+      (λ e. let two = both (eqb a 2) (eqb b 3) e in rw (eqb-true a 2 two.0, eqb-true b 3 two.1) (one_more (one_more nothing at_front) at_front))
       (λ e.
       let two = both (eqb a 3) (eqb b 2) (rw e at outer).1 in
-      rw (eqb-true a 3 two.0, eqb-true b 2 two.1) (one_more (one_more nothing in_front_lem) (behind in_front_lem))))
+      rw (eqb-true a 3 two.0, eqb-true b 2 two.1) (one_more (one_more nothing at_front) (behind at_front))))
 
   says_both : Exactly (2 ∷ 3 ∷ []) (protocol_list set) → protocols_both set ≡ true
   unfolding protocols_both

@@ -14,7 +14,7 @@ use Rattle.sa_wholes.proofs.Wholes.{Reads, reads-orderly}
 use Rattle.sa_fields.specs.Fields.{transform_id, attributes_of}
 use Rattle.sa_transforms.proofs.Laws.{LawfulTransform}
 use Rattle.policy_suits.specs.Suits.{value_is, seconds_within, kilobytes_some, nothing_surplus, main_values, main_suits, quick_id, quick_authentication, quick_suits}
-use Rattle.policy_suiting.specs.Suiting.{Offered, single, lifetime, offered_list, in_front_lem, behind, seconds, kilobytes, main_attributes, quick_attributes, IfPresent, absent, at_least_one, Matches}
+use Rattle.policy_suiting.specs.Suiting.{Offered, single, lifetime, offered_list, at_front, behind, seconds, kilobytes, main_attributes, quick_attributes, IfPresent, absent, at_least_one, Matches}
 use Rattle.policy_suiting.proofs.Exactly.{Within, none_within, sum, exactly_sum, exactly_wanted, AllWithin, no_more, and-also, all_both, within-behind, sum_both, same_kind, none_of, apart, gathered}
 use Rattle.policy_suiting.proofs.AttributeList.{LifeType, main-life, quick-life, weight, weight_some, room, AllFixed}
 use Rattle.policy_suiting.proofs.Offers.{Plain, room_in, value-says, seconds-say, kilobytes-say, says-value, says-seconds, says-kilobytes}
@@ -30,7 +30,7 @@ all_fixed exchange (lifetime u v ∷ wanted) = all_fixed exchange wanted
 all-fixed : (exchange : ℕ) (wanted : List Offered) → all_fixed exchange wanted ≡ true → AllFixed exchange wanted
 unfolding all_fixed
 all-fixed exchange [] h t v m = absurd (none_within m)
-all-fixed exchange (single u w ∷ wanted) h t v (others, in_front_lem) = (both (must_be_fixed exchange t) (all_fixed exchange wanted) h).0
+all-fixed exchange (single u w ∷ wanted) h t v (others, at_front) = (both (must_be_fixed exchange t) (all_fixed exchange wanted) h).0
 all-fixed exchange (single u w ∷ wanted) h t v (others, behind q) =
     all-fixed exchange wanted (both (must_be_fixed exchange u) (all_fixed exchange wanted) h).1 t v (_, q)
 all-fixed exchange (lifetime u w ∷ wanted) h t v (others, behind q) = all-fixed exchange wanted h t v (_, q)
@@ -46,7 +46,7 @@ record Wish (exchange n : ℕ) (wanted : (life : ℕ) → List Offered) : Type 0
 main_wish_lem : Wish 2 6 main_attributes
 unfolding same_kind none_of apart sum weight all_fixed must_be_fixed room
 main_wish_lem = record {
-  lasts = λ life. (_, behind (behind (behind (behind in_front_lem))));
+  lasts = λ life. (_, behind (behind (behind (behind at_front))));
   once = λ life duration. refl;
   weighs = λ life. refl;
   fixed = λ life. refl;
@@ -60,7 +60,7 @@ no_five protocols protocol = eqb protocols 2 && eqb protocol 3
 quick_wish_lem : (protocols mode protocol : ℕ) → Wish 32 (if no_five protocols protocol then 3 else 4) (quick_attributes protocols mode protocol)
 unfolding same_kind none_of apart sum weight all_fixed must_be_fixed room
 quick_wish_lem protocols mode protocol = record {
-  lasts = λ life. (_, behind in_front_lem);
+  lasts = λ life. (_, behind at_front);
   once = λ life duration. by_test (no_five protocols protocol) (λ e. rw e) (λ e. rw e);
   weighs = λ life. by_test (no_five protocols protocol) (λ e. rw e) (λ e. rw e);
   fixed = λ life. by_test (no_five protocols protocol) (λ e. rw e) (λ e. rw e);
@@ -182,10 +182,10 @@ module _ (t : List ℕ) (lawful : LawfulTransform 2 t) (longest : ℕ) where
       let last = kilobytes_pass main-life t lawful 6 1 longest main_wish_lem m in
       rw (
         m.same_id,
-        passes 1 129 (refl, refl) (_, in_front_lem),
-        passes 2 20 (refl, refl) (_, behind in_front_lem),
-        passes 3 10 (refl, refl) (_, behind (behind in_front_lem)),
-        passes 20 2 (refl, refl) (_, behind (behind (behind in_front_lem))),
+        passes 1 129 (refl, refl) (_, at_front),
+        passes 2 20 (refl, refl) (_, behind at_front),
+        passes 3 10 (refl, refl) (_, behind (behind at_front)),
+        passes 20 2 (refl, refl) (_, behind (behind (behind at_front))),
         lasts_within main-life t lawful 6 1 longest main_wish_lem m,
         last.0,
       )
@@ -244,7 +244,7 @@ module _ (t : List ℕ) (lawful : LawfulTransform 32 t) (protocols mode longest 
         by_test (no_five protocols protocol)
         (λ e. rw e (rw e at few))
         (λ e.
-        let there : Within (single 5 20) (wants m.life) = rw e (_, behind (behind in_front_lem)) in
+        let there : Within (single 5 20) (wants m.life) = rw e (_, behind (behind at_front)) in
         rw (e, passes 5 20 (refl, refl) there) (rw e at few))
 
     pub says-quick : quick_suits protocols mode longest protocol t ≡ true
@@ -252,7 +252,7 @@ module _ (t : List ℕ) (lawful : LawfulTransform 32 t) (protocols mode longest 
     says-quick =
         rw (
           eq-eqb (transform_id t) id m.same_id,
-          passes 4 mode (refl, refl) (_, in_front_lem),
+          passes 4 mode (refl, refl) (_, at_front),
           lasts_within quick-life t lawful count id longest (quick_wish_lem protocols mode protocol) m,
           last_pass.0,
         )

@@ -40,7 +40,7 @@ protocol_list set = listed (λ s. protocol (first_item s)) after_item 16 set
 
 -- whole is rest with x put in somewhere
 pub data PutIn {A : Type 0} (x : A) : (rest whole : List A) → Type 0 where
-  in_front_lem : {rest : List A} → PutIn x rest (x ∷ rest)
+  at_front : {rest : List A} → PutIn x rest (x ∷ rest)
   behind : {y : A} {rest whole : List A} → PutIn x rest whole → PutIn x (y ∷ rest) (y ∷ whole)
 
 -- found has exactly what is wanted, each as often, in any order

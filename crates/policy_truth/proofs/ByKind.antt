@@ -15,7 +15,7 @@ use Rattle.sa_coding.specs.Coding.{fixed_wrong, is_life_type, value_length, from
 use Rattle.sa_wholes.specs.Wholes.{One, Whole, alone, pair, Apart, from_none, from_one, Orderly, nothing, one_more}
 use Rattle.sa_wholes.proofs.Heads.{alike-head, head-alike}
 use Rattle.sa_wholes.proofs.Wholes.{Reads}
-use Rattle.policy_suiting.specs.Suiting.{Offered, single, lifetime, told, offered_list, in_front_lem, behind}
+use Rattle.policy_suiting.specs.Suiting.{Offered, single, lifetime, told, offered_list, at_front, behind}
 use Rattle.policy_suiting.proofs.Exactly.{Within, sum, put-sum, put_split, within_more, none_within, exactly_wanted, AllWithin, same_kind, none_of, apart, kind_own, other_kinds, gathered}
 use Rattle.policy_suiting.proofs.AttributeList.{LifeType, life-is, life-fixed, told-alone, told-pair, same_type, same_unit, weight, weight_some}
 use Rattle.policy_truth.specs.Truth.{OneKind, one_type, one_unit, There, AllThere}
@@ -24,12 +24,12 @@ use Rattle.policy_truth.specs.Truth.{OneKind, one_type, one_unit, There, AllTher
 
 module _ {A B : Type 0} (f : A → B) where
   pub within-map : {x : A} {l : List A} → Within x l → Within (f x) (map f l)
-  within-map (rest, in_front_lem) = (_, in_front_lem)
+  within-map (rest, at_front) = (_, at_front)
   within-map (rest, behind {y = y} q) = within_more (f y) (within-map (_, q))
 
   pub map-within : {y : B} (l : List A) → Within y (map f l) → (x : A) × (f x ≡ y) × Within x l
   map-within [] m = absurd (none_within m)
-  map-within (x ∷ l) (rest, in_front_lem) = (x, refl, (_, in_front_lem))
+  map-within (x ∷ l) (rest, at_front) = (x, refl, (_, at_front))
   map-within (x ∷ l) (rest, behind q) = let (z, e, m) = map-within l (_, q) in (z, e, within_more x m)
 
   pub map_both : (a b : List A) → map f (a ++ b) ≡ map f a ++ map f b
@@ -97,7 +97,7 @@ unfolding apart sum
 at_most [] all h f = omega arith
 at_most (x ∷ l) all h f =
     let two = both (none_of x l) (apart l) h in
-    let m = f x (_, in_front_lem) in
+    let m = f x (_, at_front) in
     let rest : AllWithin l m.0 = λ y n. ⊎_elim
     (λ same. absurd (other_kinds x y l two.0 n (rw (← same) (kind_own x))))
     (λ r. r) (put_split m.1 (f y (within_more x n))) in

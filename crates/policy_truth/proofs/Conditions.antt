@@ -5,7 +5,7 @@ use mathlib.Core.List.{List, [], ◌∷◌, ◌++◌}
 use mathlib.Core.Bool.{Bool, true, false}
 use Rattle.wire_read.specs.Tests.{if◌then◌else◌}
 use Rattle.wire_read.proofs.Tests.{by_test}
-use Rattle.policy_suiting.specs.Suiting.{in_front_lem, behind}
+use Rattle.policy_suiting.specs.Suiting.{at_front, behind}
 use Rattle.policy_suiting.proofs.Exactly.{Within, none_within}
 use Rattle.policy_cause.specs.declared.Cause.{Cause}
 use Rattle.policy_cause.specs.declared.Cause.TheVariants.{Suits}
@@ -43,7 +43,7 @@ module _ (test : ℕ × ℕ → Bool) where
   Pass l = (a : ℕ × ℕ) → Within a l → test a ≡ true
 
   pass_more : {a : ℕ × ℕ} {l : List (ℕ × ℕ)} → test a ≡ true → Pass l → Pass (a ∷ l)
-  pass_more h all b (rest, in_front_lem) = h
+  pass_more h all b (rest, at_front) = h
   pass_more h all b (rest, behind q) = all b (_, q)
 
   module _ (named : ℕ × ℕ → Cause) where

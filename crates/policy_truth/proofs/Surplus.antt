@@ -16,7 +16,7 @@ use Rattle.sa_wholes.specs.Wholes.{wholes, joined, One, alone, pair, attributes_
 use Rattle.sa_wholes.proofs.Heads.{type_head, take_head, after-head, value-head}
 use Rattle.sa_wholes.proofs.Wholes.{Reads, in_alone, in_pair}
 use Rattle.policy_suits.specs.Suits.{has_kilobytes, nothing_surplus}
-use Rattle.policy_suiting.specs.Suiting.{Offered, single, lifetime, told, offered_list, seconds, kilobytes, in_front_lem, behind}
+use Rattle.policy_suiting.specs.Suiting.{Offered, single, lifetime, told, offered_list, seconds, kilobytes, at_front, behind}
 use Rattle.policy_suiting.proofs.Exactly.{Within, within_more, within_split, none_within, sum, none_of, apart}
 use Rattle.policy_suiting.proofs.AttributeList.{LifeType, main-life, quick-life, life-is, duration_no_life, long_enough, told-alone, told-pair, same_type, same_unit, weight}
 use Rattle.policy_suiting.proofs.Offers.{found-offered, offered-found, lifetime_in, count_in, kilobytes-long, long-kilobytes}
@@ -33,13 +33,13 @@ unfolding type_wanted
 type_wanted_lem t [] h = clash h
 type_wanted_lem t (a ∷ l) h =
     by_test (eqb t a.0)
-    (λ e. (a.1, rw (eqb-true t a.0 e) (_, in_front_lem)))
+    (λ e. (a.1, rw (eqb-true t a.0 e) (_, at_front)))
     (λ e. let (v, m) = type_wanted_lem t l (rw e at h) in (v, within_more a m))
 
 wanted_type : (a : ℕ × ℕ) (l : List (ℕ × ℕ)) → Within a l → type_wanted a.0 l ≡ true
 unfolding type_wanted
 wanted_type a [] m = absurd (none_within m)
-wanted_type a (b ∷ l) (rest, in_front_lem) = rw (eq-eqb a.0 a.0 refl)
+wanted_type a (b ∷ l) (rest, at_front) = rw (eq-eqb a.0 a.0 refl)
 wanted_type a (b ∷ l) (rest, behind q) = rw (wanted_type a l (_, q)) (or-true (eqb a.0 b.0))
 
 duration-is : {exchange lifetype : ℕ} → LifeType exchange lifetype → (t : ℕ) → is_duration exchange t ≡ eqb t (lifetype + 1)
@@ -56,7 +56,7 @@ there-more : {x : Offered} {l : List Offered} (y : Offered) → There x l → Th
 there-more y (z, k, m) = (z, k, within_more y m)
 
 all_more : {x : Offered} {wants offered : List Offered} → There x offered → AllThere wants offered → AllThere (x ∷ wants) offered
-all_more h all y (rest, in_front_lem) = h
+all_more h all y (rest, at_front) = h
 all_more h all y (rest, behind q) = all y (_, q)
 
 with-kilobytes : (l : List Offered) → sum weight (kilobytes 0 ∷ l) ≡ sum weight l + 2
@@ -72,7 +72,7 @@ pub data Walked (exchange : ℕ) (wants : List Offered) (found : List ℕ) (offe
       attribute_type found ≡ type_of exchange x → value found ≡ value_of x → Walked exchange wants found offered
 
 allowed_more : {wants offered : List Offered} {x : Offered} → Allowed wants x → AllAllowed wants offered → AllAllowed wants (x ∷ offered)
-allowed_more h all y (rest, in_front_lem) = h
+allowed_more h all y (rest, at_front) = h
 allowed_more h all y (rest, behind q) = all y (_, q)
 
 walked_on : {exchange : ℕ} {wants offered : List Offered} {found : List ℕ} (x : Offered) → Allowed wants x → Walked exchange wants found offered →
@@ -110,7 +110,7 @@ module _ {exchange : ℕ} {w : Wish} (wishes : Wishes exchange w) where
       let life : Within (seconds w.longest) (offers w) =
       rw (← as_seconds w.lifetype w.longest (w.lifetype, 1) (eq-eqb w.lifetype w.lifetype refl)) (within-map offer wishes.lasts) in
       rw (eqb-true unit 1 e) (_, one_unit, within_more (kilobytes 0) life))
-      (λ e. rw (eqb-true unit 2 (rw e at h)) (_, one_unit, (_, in_front_lem)))
+      (λ e. rw (eqb-true unit 2 (rw e at h)) (_, one_unit, (_, at_front)))
 
   unit_in : (unit d : ℕ) → Within (lifetime unit d) (kilobytes 0 ∷ offers w) → (eqb unit 1 || eqb unit 2) ≡ true
   unit_in unit d m =

@@ -15,7 +15,7 @@ use Rattle.sa_wholes.proofs.Wholes.{Reads, reads-orderly}
 use Rattle.sa_fields.specs.Fields.{transform_id, attributes_of}
 use Rattle.sa_transforms.proofs.Laws.{LawfulTransform}
 use Rattle.policy_suits.specs.Suits.{present, value_is, seconds_of, kilobytes_of, seconds_within, has_kilobytes, kilobytes_some, nothing_surplus, quick_id, suits_line}
-use Rattle.policy_suiting.specs.Suiting.{Offered, single, lifetime, offered_list, in_front_lem, behind, TransformSuits, main, quick}
+use Rattle.policy_suiting.specs.Suiting.{Offered, single, lifetime, offered_list, at_front, behind, TransformSuits, main, quick}
 use Rattle.policy_suiting.proofs.Exactly.{Within, within_more, none_within, within-behind, same_kind, one-of_kind}
 use Rattle.policy_suiting.proofs.AttributeList.{life-is, Sought}
 use Rattle.policy_suiting.proofs.Offers.{found-offered, offered-found, Plain, single_in, lifetime_in, value-says, seconds-say, kilobytes-long}
@@ -37,7 +37,7 @@ use Rattle.policy_truth.proofs.Surplus.{type_of-life, Walked, none-surplus, firs
 
 in_before : {A : Type 0} {x : A} (before after : List A) → Within x before → Within x (before ++ after)
 in_before [] after m = absurd (none_within m)
-in_before (y ∷ before) after (rest, in_front_lem) = (_, in_front_lem)
+in_before (y ∷ before) after (rest, at_front) = (_, at_front)
 in_before (y ∷ before) after (rest, behind q) = within_more y (in_before before after (_, q))
 
 same-value : {t u v w : ℕ} → single t v ≡ single u w → v ≡ w
@@ -136,7 +136,7 @@ module _ {exchange : ℕ} {w : Wish} (wishes : Wishes exchange w) (t : List ℕ)
       cut_wants = same-wants ∙ ap (map offer) cut ∙ map_both offer before (a ∷ after)
 
       this_wanted : Within a (wanted w)
-      this_wanted = rw cut (within-behind before (_, in_front_lem))
+      this_wanted = rw cut (within-behind before (_, at_front))
 
       before_wanted : (b : ℕ × ℕ) → Within b before → Within b (wanted w)
       before_wanted b m = rw cut (in_before before (a ∷ after) m)

@@ -7,7 +7,7 @@ use lib.Dec.{eqb}
 use Rattle.wire_read.specs.Tests.{if◌then◌else◌}
 use Rattle.wire_read.proofs.Tests.{never, by_test}
 use Rattle.sa_coding.specs.Coding.{is_duration}
-use Rattle.policy_suiting.specs.Suiting.{Offered, single, lifetime, seconds, kilobytes, quick_attributes, in_front_lem, behind}
+use Rattle.policy_suiting.specs.Suiting.{Offered, single, lifetime, seconds, kilobytes, quick_attributes, at_front, behind}
 use Rattle.policy_suiting.proofs.Exactly.{Within, sum, none_within, same_kind, none_of, apart}
 use Rattle.policy_suiting.proofs.AttributeList.{LifeType, main-life, quick-life, same_unit, weight}
 use Rattle.policy_cause.specs.declared.Wish.{Wish}
@@ -56,7 +56,7 @@ module _ (exchange : ℕ) where
   no_duration a m = absurd (none_within m)
 
   nor_this : {t v : ℕ} {l : List (ℕ × ℕ)} → is_duration exchange t ≡ false → NoDuration exchange l → NoDuration exchange ((t, v) ∷ l)
-  nor_this h all a (rest, in_front_lem) = h
+  nor_this h all a (rest, at_front) = h
   nor_this h all a (rest, behind q) = all a (_, q)
 
 -- what all wishes have: no durations but the one behind the life type, seconds, kinds that are apart, also from kilobytes, and as many attributes
@@ -73,7 +73,7 @@ unfolding wanted wanted_count as_offer same_kind none_of apart sum weight is_dur
 main_wishes longest = record {
   life = main-life;
   plain = nor_this 2 refl (nor_this 2 refl (nor_this 2 refl (nor_this 2 refl (nor_this 2 refl (no_duration 2)))));
-  lasts = (_, behind (behind (behind (behind in_front_lem))));
+  lasts = (_, behind (behind (behind (behind at_front))));
   once = refl;
   weighs = refl;
 }
@@ -83,14 +83,14 @@ unfolding wanted wanted_count as_offer same_kind none_of apart sum weight is_dur
 quick_wishes id mode true longest = record {
   life = quick-life;
   plain = nor_this 32 refl (nor_this 32 refl (nor_this 32 refl (no_duration 32)));
-  lasts = (_, behind in_front_lem);
+  lasts = (_, behind at_front);
   once = refl;
   weighs = refl;
 }
 quick_wishes id mode false longest = record {
   life = quick-life;
   plain = nor_this 32 refl (nor_this 32 refl (no_duration 32));
-  lasts = (_, behind in_front_lem);
+  lasts = (_, behind at_front);
   once = refl;
   weighs = refl;
 }

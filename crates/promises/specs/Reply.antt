@@ -88,7 +88,7 @@ pub record TheReply (exchange count ah esp : ℕ) (m : Bytes) (number : Proposal
   pub payload : Bytes
   pub fits : length payload ≤ 2048
   pub answered : reply_answer r.0 ≡ done (length payload ∷ [])
-  pub in_front_lem : take (length payload) r.1 ≡ payload
+  pub at_front : take (length payload) r.1 ≡ payload
   pub else_kept : drop (length payload) r.1 ≡ drop (length payload) buffer
   pub k : ℕ
   pub offered : k < set_count (sa_from count 0 m)
@@ -341,7 +341,7 @@ reply_reads_back book m exchange count ah esp number line transforms buffer read
       payload = bytes;
       fits = omega arith;
       answered = refl;
-      in_front_lem = paste_inside buffer 0 bytes (omega arith);
+      at_front = paste_inside buffer 0 bytes (omega arith);
       else_kept = drop-paste (length bytes) buffer 0 bytes (omega arith);
       k = c.k;
       offered = c.a_set;

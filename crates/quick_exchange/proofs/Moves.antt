@@ -206,14 +206,14 @@ ask_of {p} {id} {first} {second} b narrow = record {
 -- ---- what is written
 
 -- a message sent first: it stands in front of the output, and it is kept
-pub in_front_lem : (buffer m : List ℕ) → length m ≤ 2048 → 2048 ≤ length buffer → take (length m) (paste buffer 0 m) ≡ m
-in_front_lem buffer m short room = paste_inside buffer 0 m (omega arith)
+pub at_front : (buffer m : List ℕ) → length m ≤ 2048 → 2048 ≤ length buffer → take (length m) (paste buffer 0 m) ≡ m
+at_front buffer m short room = paste_inside buffer 0 m (omega arith)
 
 pub keeps_it : (buffer m : List ℕ) → length m ≤ 2048 → 2048 ≤ length buffer → kept (length m) (paste buffer 0 m) ≡ m
 unfolding kept
 keeps_it buffer m short room =
     let e : min (length m) 2048 ≡ length m = omega arith in
-    rw e (in_front_lem buffer m short room)
+    rw e (at_front buffer m short room)
 
 -- a repeat: what is kept
 pub in_front_again : (sent output : List ℕ) (size : ℕ) → 2048 ≤ length sent → 2048 ≤ length output →
@@ -221,7 +221,7 @@ pub in_front_again : (sent output : List ℕ) (size : ℕ) → 2048 ≤ length s
 unfolding kept
 in_front_again sent output size a b =
     let e : length (take (min size 2048) sent) ≡ min size 2048 = length-take-le (min size 2048) sent (omega arith) in
-    ap (λ (n : ℕ). take n (paste output 0 (take (min size 2048) sent))) (sym e) ∙ in_front_lem output (take (min size 2048) sent) (omega (arith, e)) b
+    ap (λ (n : ℕ). take n (paste output 0 (take (min size 2048) sent))) (sym e) ∙ at_front output (take (min size 2048) sent) (omega (arith, e)) b
 
 -- ---- the answer to message m, which the book suits
 

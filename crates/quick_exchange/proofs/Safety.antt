@@ -31,7 +31,7 @@ use Rattle.quick_exchange.proofs.OfferLaws.{body-sets}
 use Rattle.quick_exchange.proofs.TakenLaws.{one-reads, two-reads, two_agreed, two-taken, two-content, two_spis}
 use Rattle.quick_exchange.specs.Exchange.{Party, left, logged, World, Event, at_first, at_second, step, Heard, here, there, Fair, Run, rest, goes, Fresh, state_of, sent_of, got_of, agreed_of, Same, FullSize, Chooses, chosen_set, SameProposals, SameContent, GivenFor, Only, one, more, Then, turn, next}
 use Rattle.quick_exchange.proofs.Fresh.{fresh_fit}
-use Rattle.quick_exchange.proofs.Moves.{asking, answering, past, answering_past, Ask, offered, begins-with, answers_with, in_front_lem, keeps_it, in_front_again, MoveI, MoveR, moves_first, moves_second, own_first, own-second}
+use Rattle.quick_exchange.proofs.Moves.{asking, answering, past, answering_past, Ask, offered, begins-with, answers_with, at_front, keeps_it, in_front_again, MoveI, MoveR, moves_first, moves_second, own_first, own-second}
 
 -- ---- what was written
 
@@ -137,7 +137,7 @@ replied_again a r log output R room progress =
 -- an end that sends m first: that is written, and kept
 module _ (p : Party) (m : List ℕ) (progress : Progress) (taken output : List ℕ) (short : length m ≤ 2048) (room : FullSize p output) where
   pub sends_it : (log : List (List ℕ)) → logged (sending p.end p.sent p.got output m progress taken) log ≡ m ∷ log
-  sends_it log = rw (in_front_lem output m short room.in_output)
+  sends_it log = rw (at_front output m short room.in_output)
 
   pub keeps_sent : (id : ℕ) → progress.sentsize ≡ length m → progress.id ≡ id → 2048 ≤ length taken →
       Keeps (left (sending p.end p.sent p.got output m progress taken)) id m

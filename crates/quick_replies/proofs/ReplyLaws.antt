@@ -38,7 +38,7 @@ use Rattle.quick_deliver.specs.Deliver.{delivery_code, identity_at, message_two_
 use Rattle.quick_exchange.specs.Exchange.{Party, Call, begin, deliver, tick, called, left, logged, FreshEnd, state_of, sent_of, got_of, FullSize, Chooses}
 use Rattle.quick_exchange.proofs.Fresh.{Holds, fresh_fit}
 use Rattle.quick_exchange.proofs.TakenLaws.{spis_high}
-use Rattle.quick_exchange.proofs.Moves.{past, waits, second_is, in_front_lem, keeps_it, in_front_again, by-begin, by-tick, by-delivery}
+use Rattle.quick_exchange.proofs.Moves.{past, waits, second_is, at_front, keeps_it, in_front_again, by-begin, by-tick, by-delivery}
 use Rattle.quick_replies.specs.Replies.{Octets, Narrow, Calls, on, AnswersOne, All, also}
 use Rattle.quick_replies.proofs.OneLaws.{id-small, Offering, one_passed}
 use Rattle.quick_replies.proofs.TwoLaws.{two-reads}
@@ -160,7 +160,7 @@ module _ (p : Party) (log : List (List ℕ)) where
           (sym same) (answers end h m one bytes) s in
           let got = keeps_it p.got m one.short room.in_got in
           let sent = keeps_it p.sent reply a.1 room.in_sent in
-          let written = in_front_lem output reply a.1 room.in_output in
+          let written = at_front output reply a.1 room.in_output in
           (refl, answered refl (rw (got, sent) a.0) (rw (got, written, none) (also a.0 All.none)))
 
       by-choice : Stands p log → state_of p ≡ Idle → Offering m → (c : Choice) → choose_from 32 (book_of p.end.own) (body_at 1 m) ≡ c →
