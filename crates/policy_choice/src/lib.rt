@@ -1,4 +1,6 @@
 // The choice: the first set, the first line that it suits, the lowest transform in each proposal.
+#![tactic(auto)]
+
 pub mod choose;
 
 use policy_lines::LineNumber;

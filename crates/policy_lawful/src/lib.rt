@@ -1,4 +1,6 @@
 // Whether a reply is lawful beside the offer that it answers and, where there is one, a book; and what differs first.
+#![tactic(auto)]
+
 ghost use Rattle.std.specs.Prelude.{◌≡◌};
 ghost use Rattle.wire_read.specs.Tests.{if◌then◌else◌};
 ghost use Rattle.message_chain.specs.Message.{message};

@@ -1,4 +1,6 @@
 // The reply: the chosen set with one transform in each proposal, as offered, and own SPIs.
+#![tactic(auto)]
+
 ghost use Rattle.std.specs.Prelude.{◌≡◌, ◌+◌, ◌≤◌, length};
 ghost use Rattle.wire_write.specs.Put.{paste, put};
 ghost use Rattle.policy_reply.specs.Reply.{own_spi, fields, proposal_of, proposal_reply, set_reply, sa_of, spi_low, spis_low, choice_refusal, replied};

@@ -1,4 +1,6 @@
 // Why a set of an offer does not suit a line of the book: the refusals, and the cause at each place.
+#![tactic(auto)]
+
 ghost use Rattle.std.specs.Prelude.{◌≡◌};
 ghost use Rattle.message_chain.specs.Message.{message};
 ghost use Rattle.policy_why.specs.Why.{message_offer, offered, is_place, cause_in, why};
