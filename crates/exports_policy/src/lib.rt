@@ -1,4 +1,6 @@
 // What other languages call to choose by a policy book: the book, the choice, the reply.
+#![tactic(auto)]
+
 ghost use Rattle.std.specs.Prelude.{◌≡◌};
 ghost use Rattle.exports_words.specs.Given.{given};
 ghost use Rattle.policy_book.specs.Book.{book_read, book_answer};

@@ -1,4 +1,6 @@
 // What other languages call to say why nothing was chosen: the cause at places, and what stands there.
+#![tactic(auto)]
+
 ghost use Rattle.std.specs.Prelude.{◌∷◌, ◌≡◌};
 ghost use Rattle.exports_words.specs.Given.{words, given};
 ghost use Rattle.policy_cause.specs.Causes.{cause_values};

@@ -1,15 +1,12 @@
--- Each number is read from the bytes that hold it.
 use Prim.Native.Nat.{ℕ}
 use mathlib.Core.Path.{◌≡◌}
 use mathlib.Core.List.{List, [], ◌∷◌}
-use borrow.Author.Rules.{rules}
 use Rattle.sa_fields.specs.Fields.{proposal_number, protocol, transform_number}
 use Rattle.sa_fields.specs.declared.ProposalNumber.{ProposalNumber}
 use Rattle.sa_fields.specs.declared.TransformNumber.{TransformNumber}
 use Rattle.sa_items.specs.Items.{proposal}
 use Rattle.exports_why.specs.Places.{found_values}
-use Rattle.exports_why.proofs.found_words.Statement.{statement}
-use Rattle.exports_why.proofs.found_words.Tie as tie
+use Rattle.exports_why.proofs.found_words.Goals as goal
 
 module _ (s p t first : List ℕ) (ef : first ≡ proposal 0 s) (set : ProposalNumber) (es : set ≡ proposal_number first)
     (transform : TransformNumber) (et : transform ≡ transform_number t) where
@@ -17,15 +14,5 @@ module _ (s p t first : List ℕ) (ef : first ≡ proposal 0 s) (set : ProposalN
   unfolding found_values
   its-values its ei = rw (← ef, ← es, ← ei, ← et)
 
-pub found-words-spec : {M : Type 1} → statement M
-found-words-spec =
-    tie.close
-    (tie.spec
-    (λ c κs. search rules)
-    (λ c κs. search rules)
-    (λ c κs. search rules)
-    (λ c. search rules)
-    (λ c κs. search rules)
-    (λ c. search rules)
-    (λ c. search rules)
-    (λ c. search its-values))
+pub returns : goal.returns
+returns c = search its-values

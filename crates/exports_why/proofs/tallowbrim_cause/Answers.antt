@@ -1,16 +1,13 @@
--- The answer is what `why` says, and each arm knows which of its four forms it has.
 use Prim.Native.Nat.{ℕ}
 use mathlib.Core.Path.{◌≡◌}
 use mathlib.Core.List.{List, [], ◌∷◌}
-use borrow.Author.Rules.{rules}
 use Rattle.exports_words.specs.Given.{given, left, words}
 use Rattle.policy_cause.specs.Causes.{cause_values}
 use Rattle.policy_cause.specs.declared.Cause.{Cause}
 use Rattle.policy_why.specs.Why.{why_answer}
 use Rattle.policy_why.specs.declared.Why.{Why}
 use Rattle.policy_why.specs.declared.Why.TheVariants.{Refused, NoSuchPlace, Protocols, Transform}
-use Rattle.exports_why.proofs.tallowbrim_cause.Statement.{statement}
-use Rattle.exports_why.proofs.tallowbrim_cause.Tie as tie
+use Rattle.exports_why.proofs.tallowbrim_cause.Goals as goal
 
 module _ (answer said : Why) (same : answer ≡ said) (out : List ℕ) where
   given-refused : (number : ℕ) → answer ≡ Refused number → given 5 (why_answer said) out ≡ (number, out)
@@ -30,18 +27,14 @@ module _ (answer said : Why) (same : answer ≡ said) (out : List ℕ) where
   unfolding given left why_answer
   given-cause cause is r er = rw (← same, is, er)
 
-pub tallowbrim-cause-spec : {M : Type 1} → statement M
-tallowbrim-cause-spec =
-    tie.close
-    (tie.spec
-    (λ c κs. search rules)
-    (λ c. search rules)
-    (λ c. search rules)
-    (λ c. search rules)
-    (λ c. search rules)
-    (λ c. search rules)
-    (λ c κs. search rules)
-    (λ c. search given-refused)
-    (λ c. search given-no-place)
-    (λ c. search given-protocols)
-    (λ c. search given-cause))
+pub returns-in-Refused : goal.returns-in-Refused
+returns-in-Refused c = search given-refused
+
+pub returns-in-NoSuchPlace : goal.returns-in-NoSuchPlace
+returns-in-NoSuchPlace c = search given-no-place
+
+pub returns-in-Protocols : goal.returns-in-Protocols
+returns-in-Protocols c = search given-protocols
+
+pub returns-in-Transform : goal.returns-in-Transform
+returns-in-Transform c = search given-cause

@@ -1,17 +1,14 @@
--- The place is there, and its numbers are those of its bytes; or it is not.
 use Prim.Native.Nat.{ℕ}
 use mathlib.Core.Path.{◌≡◌}
 use mathlib.Core.List.{List, [], ◌∷◌}
 use mathlib.Core.Bool.{Bool, true, false, not}
-use borrow.Author.Rules.{rules}
 use Rattle.sa_items.specs.Items.{proposal, transform}
 use Rattle.sa_sets.specs.Sets.{set}
 use Rattle.policy_why.specs.Why.{is_place}
 use Rattle.policy_why.specs.declared.Places.{Places}
 use Rattle.exports_words.specs.Given.{words}
 use Rattle.exports_why.specs.Places.{found_values, place_values}
-use Rattle.exports_why.proofs.place_words.Statement.{statement}
-use Rattle.exports_why.proofs.place_words.Tie as tie
+use Rattle.exports_why.proofs.place_words.Goals as goal
 
 module _ (body : List ℕ) (at : Places) (found : Bool) (ef : found ≡ is_place body at) where
   no_place : not found ≡ true → 1 ∷ 0 ∷ 0 ∷ 0 ∷ [] ≡ words 4 (place_values body at)
@@ -23,14 +20,8 @@ module _ (body : List ℕ) (at : Places) (found : Bool) (ef : found ≡ is_place
   unfolding words place_values found_values
   a-place h s p t r es ep et er = rw (← ef, h, ← es, ← ep, ← et) er
 
-pub place-words-spec : {M : Type 1} → statement M
-place-words-spec =
-    tie.close
-    (tie.spec
-    (λ c κs. search rules)
-    (λ c. search no_place)
-    (λ c κs. search rules)
-    (λ c κs. search rules)
-    (λ c κs. search rules)
-    (λ c κs. search rules)
-    (λ c. search a-place))
+pub returns-then-not-is_place : goal.returns-then-not-is_place
+returns-then-not-is_place c = search no_place
+
+pub returns : goal.returns
+returns c = search a-place

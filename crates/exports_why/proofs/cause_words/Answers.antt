@@ -1,14 +1,11 @@
--- Each arm knows which of its seven forms the cause has.
 use Prim.Native.Nat.{ℕ}
 use mathlib.Core.Path.{◌≡◌}
 use mathlib.Core.List.{[], ◌∷◌}
-use borrow.Author.Rules.{rules}
 use Rattle.exports_words.specs.Given.{words}
 use Rattle.policy_cause.specs.Causes.{cause_values}
 use Rattle.policy_cause.specs.declared.Cause.{Cause}
 use Rattle.policy_cause.specs.declared.Cause.TheVariants.{Suits, Id, Missing, Value, Surplus, Seconds, Kilobytes}
-use Rattle.exports_why.proofs.cause_words.Statement.{statement}
-use Rattle.exports_why.proofs.cause_words.Tie as tie
+use Rattle.exports_why.proofs.cause_words.Goals as goal
 
 module _ (cause : Cause) where
   its-suits : cause ≡ Suits → 3 ∷ 1 ∷ 0 ∷ 0 ∷ 0 ∷ [] ≡ words 5 (3 ∷ cause_values cause)
@@ -41,31 +38,23 @@ module _ (cause : Cause) where
   unfolding words cause_values
   its-kilobytes is = rw is
 
-pub cause-words-spec : {M : Type 1} → statement M
-cause-words-spec =
-    tie.close
-    (tie.spec
-    (λ c. search rules)
-    (λ c. search rules)
-    (λ c. search rules)
-    (λ c. search rules)
-    (λ c. search rules)
-    (λ c. search rules)
-    (λ c. search rules)
-    (λ c. search rules)
-    (λ c. search rules)
-    (λ c. search rules)
-    (λ c. search rules)
-    (λ c. search rules)
-    (λ c. search rules)
-    (λ c. search rules)
-    (λ c. search rules)
-    (λ c. search rules)
-    (λ c. search rules)
-    (λ c. search its-suits)
-    (λ c. search its_id)
-    (λ c. search its-missing)
-    (λ c. search its-value)
-    (λ c. search its-surplus)
-    (λ c. search its-seconds)
-    (λ c. search its-kilobytes))
+pub returns-in-Suits : goal.returns-in-Suits
+returns-in-Suits c = search its-suits
+
+pub returns-in-Id : goal.returns-in-Id
+returns-in-Id c = search its_id
+
+pub returns-in-Missing : goal.returns-in-Missing
+returns-in-Missing c = search its-missing
+
+pub returns-in-Value : goal.returns-in-Value
+returns-in-Value c = search its-value
+
+pub returns-in-Surplus : goal.returns-in-Surplus
+returns-in-Surplus c = search its-surplus
+
+pub returns-in-Seconds : goal.returns-in-Seconds
+returns-in-Seconds c = search its-seconds
+
+pub returns-in-Kilobytes : goal.returns-in-Kilobytes
+returns-in-Kilobytes c = search its-kilobytes

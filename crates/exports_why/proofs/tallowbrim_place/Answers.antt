@@ -1,9 +1,7 @@
--- The offer is read as `message_offer` says; it has the place or has it not.
 use Prim.Native.Nat.{ℕ}
 use mathlib.Core.Path.{◌≡◌, refl}
 use mathlib.Core.List.{List, [], ◌∷◌}
 use mathlib.Core.Bool.{Bool, true, false, not}
-use borrow.Author.Rules.{rules}
 use Rattle.wire_read.specs.Tests.{if◌then◌else◌}
 use Rattle.message_chain.specs.Message.{message}
 use Rattle.policy_choice.specs.Choice.{sa_from}
@@ -13,10 +11,8 @@ use Rattle.policy_why.specs.declared.Offer.TheVariants.{Refused, Readable}
 use Rattle.policy_why.specs.declared.Places.{Places}
 use Rattle.exports_words.specs.Given.{given, left, words}
 use Rattle.exports_why.specs.Places.{found_values, place_values, offer_place, place_answer}
-use Rattle.exports_why.proofs.tallowbrim_place.Statement.{statement}
-use Rattle.exports_why.proofs.tallowbrim_place.Tie as tie
+use Rattle.exports_why.proofs.tallowbrim_place.Goals as goal
 
--- a place has a value, there or not
 some_left : (missing : Bool) (values out : List ℕ) →
     left 4 (if missing then 1 ∷ [] else 2 ∷ values) out ≡ words 4 (if missing then 1 ∷ [] else 2 ∷ values)
 unfolding left
@@ -37,15 +33,8 @@ module _ (m : List ℕ) (at : Places) (offer : Offer) (same : offer ≡ message_
   unfolding given place_answer offer_place
   given-place exchange count is body r eb er = rw (← same, is, ← eb, place-left, ← er)
 
-pub tallowbrim-place-spec : {M : Type 1} → statement M
-tallowbrim-place-spec =
-    tie.close
-    (tie.spec
-    (λ c κs. search rules)
-    (λ c. search rules)
-    (λ c. search rules)
-    (λ c. search rules)
-    (λ c κs. search rules)
-    (λ c κs. search rules)
-    (λ c. search given-refused)
-    (λ c. search given-place))
+pub returns-in-Refused : goal.returns-in-Refused
+returns-in-Refused c = search given-refused
+
+pub returns-in-Readable : goal.returns-in-Readable
+returns-in-Readable c = search given-place
