@@ -1,4 +1,6 @@
 // What other languages call to read: datagrams, messages, payloads, identities and DER.
+#![tactic(auto)]
+
 ghost use Rattle.std.specs.Prelude.{◌≡◌};
 ghost use Rattle.der.specs.Der.{is_element, is_name};
 ghost use Rattle.exports_words.specs.Given.{given};

@@ -1,8 +1,6 @@
--- The message is read as `message` says; a payload that is there is what `payload_at` says.
 use Prim.Native.Nat.{ℕ, ◌≤◌, ◌<◌}
 use mathlib.Core.Path.{◌≡◌}
 use mathlib.Core.List.{List, [], ◌∷◌}
-use borrow.Author.Rules.{rules}
 use borrow.Author.Tests.{le-leb, lt-leb}
 use Rattle.exports_words.specs.Given.{given, left, words}
 use Rattle.message_chain.specs.Message.{message, payload_at}
@@ -10,8 +8,7 @@ use Rattle.message_chain.specs.declared.Message.{Message}
 use Rattle.message_chain.specs.declared.Message.TheVariants.{Refused, Read}
 use Rattle.message_chain.specs.declared.Payload.{Payload}
 use Rattle.exports_reading.specs.Payloads.{read_payload, payload_answer}
-use Rattle.exports_reading.proofs.tallowbrim_payload.Statement.{statement}
-use Rattle.exports_reading.proofs.tallowbrim_payload.Tie as tie
+use Rattle.exports_reading.proofs.tallowbrim_payload.Goals as goal
 
 module _ (m : List ℕ) (place : ℕ) (answer : Message) (same : answer ≡ message m) (out : List ℕ) where
   given-refused : (number : ℕ) → answer ≡ Refused number → given 3 (payload_answer place m) out ≡ (number, out)
@@ -28,16 +25,11 @@ module _ (m : List ℕ) (place : ℕ) (answer : Message) (same : answer ≡ mess
     unfolding given left words payload_answer read_payload
     given-payload there p ep = rw (← same, is, lt-leb count place there, ← ep)
 
-pub tallowbrim-payload-spec : {M : Type 1} → statement M
-tallowbrim-payload-spec =
-    tie.close
-    (tie.spec
-    (λ c κs. search rules)
-    (λ c. search rules)
-    (λ c. search rules)
-    (λ c. search rules)
-    (λ c. search given_nothing)
-    (λ c κs. search rules)
-    (λ c. search rules)
-    (λ c. search given-refused)
-    (λ c. search given-payload))
+pub returns-then-count-place : goal.returns-then-count-place
+returns-then-count-place c = search given_nothing
+
+pub returns-in-Refused : goal.returns-in-Refused
+returns-in-Refused c = search given-refused
+
+pub returns-else-count-place : goal.returns-else-count-place
+returns-else-count-place c = search given-payload

@@ -1,14 +1,11 @@
--- The answer is what `message` says, and each arm knows which of its two forms it has.
 use Prim.Native.Nat.{ℕ}
 use mathlib.Core.Path.{◌≡◌}
 use mathlib.Core.List.{List, [], ◌∷◌}
-use borrow.Author.Rules.{rules}
 use Rattle.exports_words.specs.Given.{given, left, words}
 use Rattle.message_chain.specs.Message.{message_answer}
 use Rattle.message_chain.specs.declared.Message.{Message}
 use Rattle.message_chain.specs.declared.Message.TheVariants.{Refused, Read}
-use Rattle.exports_reading.proofs.tallowbrim_message.Statement.{statement}
-use Rattle.exports_reading.proofs.tallowbrim_message.Tie as tie
+use Rattle.exports_reading.proofs.tallowbrim_message.Goals as goal
 
 module _ (answer said : Message) (same : answer ≡ said) (out : List ℕ) where
   given-refused : (number : ℕ) → answer ≡ Refused number → given 2 (message_answer said) out ≡ (number, out)
@@ -19,15 +16,8 @@ module _ (answer said : Message) (same : answer ≡ said) (out : List ℕ) where
   unfolding given left words message_answer
   given-read exchange count is = rw (← same, is)
 
-pub tallowbrim-message-spec : {M : Type 1} → statement M
-tallowbrim-message-spec =
-    tie.close
-    (tie.spec
-    (λ c κs. search rules)
-    (λ c. search rules)
-    (λ c. search rules)
-    (λ c. search rules)
-    (λ c. search rules)
-    (λ c. search rules)
-    (λ c. search given-refused)
-    (λ c. search given-read))
+pub returns-in-Refused : goal.returns-in-Refused
+returns-in-Refused c = search given-refused
+
+pub returns-in-Read : goal.returns-in-Read
+returns-in-Read c = search given-read

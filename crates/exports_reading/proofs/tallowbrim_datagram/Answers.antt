@@ -1,14 +1,11 @@
--- The answer is what `datagram` says, and each arm knows which of its four forms it has.
 use Prim.Native.Nat.{ℕ}
 use mathlib.Core.Path.{◌≡◌}
 use mathlib.Core.List.{List, [], ◌∷◌}
-use borrow.Author.Rules.{rules}
 use Rattle.exports_words.specs.Given.{given, left, words}
 use Rattle.port4500.specs.Port.{datagram_answer}
 use Rattle.port4500.specs.declared.Datagram.{Datagram}
 use Rattle.port4500.specs.declared.Datagram.TheVariants.{Keepalive, KeyExchange, Esp, Refused}
-use Rattle.exports_reading.proofs.tallowbrim_datagram.Statement.{statement}
-use Rattle.exports_reading.proofs.tallowbrim_datagram.Tie as tie
+use Rattle.exports_reading.proofs.tallowbrim_datagram.Goals as goal
 
 module _ (answer said : Datagram) (same : answer ≡ said) (out : List ℕ) where
   given-keepalive : answer ≡ Keepalive → given 3 (datagram_answer said) out ≡ (0, 1 ∷ 0 ∷ 0 ∷ [])
@@ -27,17 +24,14 @@ module _ (answer said : Datagram) (same : answer ≡ said) (out : List ℕ) wher
   unfolding given left datagram_answer
   given-refused number is = rw (← same, is)
 
-pub tallowbrim-datagram-spec : {M : Type 1} → statement M
-tallowbrim-datagram-spec =
-    tie.close
-    (tie.spec
-    (λ c κs. search rules)
-    (λ c. search rules)
-    (λ c. search rules)
-    (λ c. search rules)
-    (λ c. search rules)
-    (λ c. search rules)
-    (λ c. search given-keepalive)
-    (λ c. search given-exchange)
-    (λ c. search given-esp)
-    (λ c. search given-refused))
+pub returns-in-Keepalive : goal.returns-in-Keepalive
+returns-in-Keepalive c = search given-keepalive
+
+pub returns-in-KeyExchange : goal.returns-in-KeyExchange
+returns-in-KeyExchange c = search given-exchange
+
+pub returns-in-Esp : goal.returns-in-Esp
+returns-in-Esp c = search given-esp
+
+pub returns-in-Refused : goal.returns-in-Refused
+returns-in-Refused c = search given-refused
