@@ -1,4 +1,6 @@
 // What other languages call to ask whether a gateway's reply is lawful, and what differs first.
+#![tactic(auto)]
+
 ghost use Rattle.std.specs.Prelude.{◌≡◌};
 ghost use Rattle.exports_words.specs.Given.{words, given};
 ghost use Rattle.policy_lawful.specs.Lawful.{reply_lawful, lawful_answer, first_difference, difference_values, difference_answer};

@@ -1,8 +1,6 @@
--- The answer is what `choice` says, and each arm knows which of its forms it has.
 use Prim.Native.Nat.{ℕ}
 use mathlib.Core.Path.{◌≡◌}
 use mathlib.Core.List.{List, [], ◌∷◌}
-use borrow.Author.Rules.{rules}
 use Rattle.sa_fields.specs.declared.ProposalNumber.{ProposalNumber}
 use Rattle.sa_fields.specs.declared.TransformNumber.{TransformNumber}
 use Rattle.policy_lines.specs.declared.LineNumber.{LineNumber}
@@ -12,8 +10,7 @@ use Rattle.policy_choice.specs.declared.Transforms.{Transforms}
 use Rattle.policy_choice.specs.declared.Transforms.TheVariants.{One, Two}
 use Rattle.exports_words.specs.Given.{given, left, words}
 use Rattle.exports_policy.specs.Choices.{chosen_answer}
-use Rattle.exports_policy.proofs.tallowbrim_choose.Statement.{statement}
-use Rattle.exports_policy.proofs.tallowbrim_choose.Tie as tie
+use Rattle.exports_policy.proofs.tallowbrim_choose.Goals as goal
 
 module _ (answer said : Choice) (same : answer ≡ said) (out : List ℕ) where
   given-refused : (number : ℕ) → answer ≡ Refused number → given 5 (chosen_answer said) out ≡ (number, out)
@@ -30,23 +27,11 @@ module _ (answer said : Choice) (same : answer ≡ said) (out : List ℕ) where
     unfolding given left words chosen_answer
     given-two t u two = rw (← same, is, two)
 
-pub tallowbrim-choose-spec : {M : Type 1} → statement M
-tallowbrim-choose-spec =
-    tie.close
-    (tie.spec
-    (λ c κs. search rules)
-    (λ c. search rules)
-    (λ c. search rules)
-    (λ c. search rules)
-    (λ c. search rules)
-    (λ c. search rules)
-    (λ c. search rules)
-    (λ c. search rules)
-    (λ c. search rules)
-    (λ c. search rules)
-    (λ c. search rules)
-    (λ c. search rules)
-    (λ c. search rules)
-    (λ c. search given-refused)
-    (λ c. search given-one)
-    (λ c. search given-two))
+pub returns-in-Refused : goal.returns-in-Refused
+returns-in-Refused c = search given-refused
+
+pub returns-in-One : goal.returns-in-One
+returns-in-One c = search given-one
+
+pub returns-in-Two : goal.returns-in-Two
+returns-in-Two c = search given-two

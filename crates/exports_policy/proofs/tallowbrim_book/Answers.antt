@@ -1,14 +1,11 @@
--- The answer is what `book_read` says, and each arm knows which of its two forms it has.
 use Prim.Native.Nat.{ℕ}
 use mathlib.Core.Path.{◌≡◌}
 use mathlib.Core.List.{List, [], ◌∷◌}
-use borrow.Author.Rules.{rules}
 use Rattle.exports_words.specs.Given.{given, left, words}
 use Rattle.policy_book.specs.Book.{book_answer}
 use Rattle.policy_book.specs.declared.Book.{Book}
 use Rattle.policy_book.specs.declared.Book.TheVariants.{Refused, Lawful}
-use Rattle.exports_policy.proofs.tallowbrim_book.Statement.{statement}
-use Rattle.exports_policy.proofs.tallowbrim_book.Tie as tie
+use Rattle.exports_policy.proofs.tallowbrim_book.Goals as goal
 
 module _ (answer said : Book) (same : answer ≡ said) (out : List ℕ) where
   given-refused : (number : ℕ) → answer ≡ Refused number → given 2 (book_answer said) out ≡ (number, out)
@@ -19,15 +16,8 @@ module _ (answer said : Book) (same : answer ≡ said) (out : List ℕ) where
   unfolding given left words book_answer
   given-lawful main quick is = rw (← same, is)
 
-pub tallowbrim-book-spec : {M : Type 1} → statement M
-tallowbrim-book-spec =
-    tie.close
-    (tie.spec
-    (λ c κs. search rules)
-    (λ c. search rules)
-    (λ c. search rules)
-    (λ c. search rules)
-    (λ c. search rules)
-    (λ c. search rules)
-    (λ c. search given-refused)
-    (λ c. search given-lawful))
+pub returns-in-Refused : goal.returns-in-Refused
+returns-in-Refused c = search given-refused
+
+pub returns-in-Lawful : goal.returns-in-Lawful
+returns-in-Lawful c = search given-lawful

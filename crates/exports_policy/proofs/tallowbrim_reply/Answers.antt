@@ -1,15 +1,12 @@
--- The outcome and the buffer are what `replied` says, and each arm knows which of its two forms the outcome has.
 use Prim.Native.Nat.{ℕ}
 use mathlib.Core.Path.{◌≡◌}
 use mathlib.Core.List.{List, [], ◌∷◌}
-use borrow.Author.Rules.{rules}
 use Rattle.policy_reply.specs.Reply.{reply_answer}
 use Rattle.policy_reply.specs.declared.Outcome.{Outcome}
 use Rattle.policy_reply.specs.declared.Outcome.TheVariants.{Refused, Written}
 use Rattle.exports_words.specs.Given.{given, left, words}
 use Rattle.exports_policy.specs.Replies.{reply_given}
-use Rattle.exports_policy.proofs.tallowbrim_reply.Statement.{statement}
-use Rattle.exports_policy.proofs.tallowbrim_reply.Tie as tie
+use Rattle.exports_policy.proofs.tallowbrim_reply.Goals as goal
 
 module _ (said : Outcome × List ℕ) (outcome : Outcome) (after : List ℕ) (same : said ≡ (outcome, after)) (out : List ℕ) where
   given-refused : (number : ℕ) → outcome ≡ Refused number → reply_given said out ≡ ((number, out), after)
@@ -20,15 +17,8 @@ module _ (said : Outcome × List ℕ) (outcome : Outcome) (after : List ℕ) (sa
   unfolding reply_given given left words reply_answer
   given-written size is = rw (same, is)
 
-pub tallowbrim-reply-spec : {M : Type 1} → statement M
-tallowbrim-reply-spec =
-    tie.close
-    (tie.spec
-    (λ c κs. search rules)
-    (λ c. search rules)
-    (λ c. search rules)
-    (λ c. search rules)
-    (λ c. search rules)
-    (λ c. search given-refused)
-    (λ c. search rules)
-    (λ c. search given-written))
+pub returns-in-Refused : goal.returns-in-Refused
+returns-in-Refused c = search given-refused
+
+pub returns-in-Written : goal.returns-in-Written
+returns-in-Written c = search given-written
