@@ -1,4 +1,6 @@
 // What other languages call to read a capture: its headers, and what a record carries.
+#![tactic(auto)]
+
 ghost use Rattle.std.specs.Prelude.{◌≡◌, [], ◌∷◌};
 ghost use Rattle.exports_words.specs.Given.{words, given};
 ghost use Rattle.capture_header.specs.Headers.{file_header, record_header, header_cause, order_value, file_header_answer, record_header_answer, header_cause_answer};

@@ -1,5 +1,7 @@
 // What other languages call for sequence numbers: a receive record in two words that they lend, the plain list, and the table of SA
 // entries.
+#![tactic(auto)]
+
 ghost use Rattle.std.specs.Prelude.{◌≡◌};
 ghost use Rattle.exports_words.specs.Given.{given};
 ghost use Rattle.sequence_record.specs.Receive.{judged, loss_line, verdict_answer};
