@@ -30,8 +30,7 @@ fn order_of(order: u64) -> Order
 }
 
 // The first 24 bytes of a capture file: its byte order.
-#[unsafe(no_mangle)]
-pub extern "C" fn tallowbrim_file_header(s: &[u8], out: &mut [u64; 1]) -> u32
+pub fn tallowbrim_file_header(s: &[u8], out: &mut [u64; 1]) -> u32
     ensures { given 1 (file_header_answer (file_header s.now)) out.old ≡ (result, out.new) }
 {
     let header = capture_header::file_header(s);
@@ -60,8 +59,7 @@ fn cause_words(cause: HeaderCause) -> [u64; 3]
 }
 
 // What a file is whose header is refused.
-#[unsafe(no_mangle)]
-pub extern "C" fn tallowbrim_header_cause(s: &[u8], out: &mut [u64; 3]) -> u32
+pub fn tallowbrim_header_cause(s: &[u8], out: &mut [u64; 3]) -> u32
     ensures { given 3 (header_cause_answer (header_cause s.now)) out.old ≡ (result, out.new) }
 {
     *out = cause_words(capture_header::header_cause(s));
@@ -69,8 +67,7 @@ pub extern "C" fn tallowbrim_header_cause(s: &[u8], out: &mut [u64; 3]) -> u32
 }
 
 // The 16 bytes in front of a record; the order is 1 for big-endian, anything else for little-endian.
-#[unsafe(no_mangle)]
-pub extern "C" fn tallowbrim_record_header(order: u64, s: &[u8], out: &mut [u64; 5]) -> u32
+pub fn tallowbrim_record_header(order: u64, s: &[u8], out: &mut [u64; 5]) -> u32
     ensures { given 5 (record_header_answer (record_header (order_of order) s.now)) out.old ≡ (result, out.new) }
 {
     let header = capture_header::record_header(order_of(order), s);
@@ -139,8 +136,7 @@ fn frame_words(frame: Frame) -> [u64; 5]
 }
 
 // What a record carries that was so long and of which these bytes were captured.
-#[unsafe(no_mangle)]
-pub extern "C" fn tallowbrim_carried(original: u32, s: &[u8], out: &mut [u64; 5]) -> u32
+pub fn tallowbrim_carried(original: u32, s: &[u8], out: &mut [u64; 5]) -> u32
     ensures { given 5 (frame_answer (carried original s.now)) out.old ≡ (result, out.new) }
 {
     *out = frame_words(capture_frame::carried(original, s));
