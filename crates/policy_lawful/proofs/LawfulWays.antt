@@ -41,13 +41,10 @@ pub else_next : (first next : Difference) → first ≡ Nothing → next ≡ (fi
 unfolding ◌or_else◌
 else_next first next h = rw h
 
--- any variant but `Nothing`, which is number 0
-abbrev some : List ℕ
-some = 1 ∷ 2 ∷ 3 ∷ 4 ∷ 5 ∷ 6 ∷ 7 ∷ 8 ∷ 9 ∷ 10 ∷ 11 ∷ 12 ∷ 13 ∷ 14 ∷ []
-
-pub else_first : (first next : Difference) → OneOf some (tag_of the_type first) → first ≡ (first or_else next)
+-- any variant but `Nothing`
+pub else_first : (first next : Difference) → (first ≡ Nothing → ⊥) → first ≡ (first or_else next)
 unfolding ◌or_else◌
-else_first Nothing next h = absurd (miss some 0 tt h)
+else_first Nothing next h = absurd (h refl)
 else_first (OfferRefused number) next h = refl
 else_first (BookRefused number) next h = refl
 else_first (ReplyRefused number) next h = refl
@@ -306,7 +303,7 @@ module _ (booked : Bool) (exchange : ℕ) (book offer reply : List ℕ) (a : Dif
   compared-alone h = rw (h, ← ea) (else_last a)
 
 module _ (booked : Bool) (book offer reply : List ℕ) (found : Difference) (ef : found ≡ unread booked book offer reply) where
-  pub differs_unread : OneOf some (tag_of the_type found) → found ≡ first_difference booked book offer reply
+  pub differs_unread : (found ≡ Nothing → ⊥) → found ≡ first_difference booked book offer reply
   unfolding first_difference
   differs_unread h = rw (← ef) (else_first found _ h)
 
@@ -330,27 +327,30 @@ module _ (x : Difference) where
   unfolding lawful_by
   by_reply number h = rw h
 
--- how the reply does not repeat the offer: the variants from 4 on, but for the last three
-abbrev unrepeated : List ℕ
-unrepeated = 4 ∷ 5 ∷ 6 ∷ 7 ∷ 8 ∷ 9 ∷ 10 ∷ 11 ∷ []
+-- how the reply does not repeat the offer: any variant but those that are named
+module _ (x : Difference) (differs : x ≡ Nothing → ⊥) (offer : (n : ℕ) → x ≡ OfferRefused n → ⊥) (book : (n : ℕ) → x ≡ BookRefused n → ⊥)
+    (reply : (n : ℕ) → x ≡ ReplyRefused n → ⊥) (set : (f c : ProposalNumber) → x ≡ OtherSet f c → ⊥)
+    (transform : (p : ℕ) (f c : TransformNumber) → x ≡ OtherTransform p f c → ⊥) (chosen : x ≡ NothingChosen → ⊥) where
+  by_case : (y : Difference) → x ≡ y → Refused 15 ≡ lawful_by y
+  unfolding lawful_by
+  by_case Nothing e = absurd (differs e)
+  by_case (OfferRefused number) e = absurd (offer number e)
+  by_case (BookRefused number) e = absurd (book number e)
+  by_case (ReplyRefused number) e = absurd (reply number e)
+  by_case (SeveralSets count) e = refl
+  by_case (SetNotOffered number) e = refl
+  by_case Protocols e = refl
+  by_case Order e = refl
+  by_case (SeveralTransforms protocol count) e = refl
+  by_case (TransformNotOffered protocol number) e = refl
+  by_case (Id protocol number found offered) e = refl
+  by_case (Attributes protocol number) e = refl
+  by_case (OtherSet found other) e = absurd (set found other e)
+  by_case (OtherTransform protocol found other) e = absurd (transform protocol found other e)
+  by_case NothingChosen e = absurd (chosen e)
 
-pub by_repeat : (x : Difference) → OneOf unrepeated (tag_of the_type x) → Refused 15 ≡ lawful_by x
-unfolding lawful_by
-by_repeat Nothing h = absurd (miss unrepeated 0 tt h)
-by_repeat (OfferRefused number) h = absurd (miss unrepeated 1 tt h)
-by_repeat (BookRefused number) h = absurd (miss unrepeated 2 tt h)
-by_repeat (ReplyRefused number) h = absurd (miss unrepeated 3 tt h)
-by_repeat (SeveralSets count) h = refl
-by_repeat (SetNotOffered number) h = refl
-by_repeat Protocols h = refl
-by_repeat Order h = refl
-by_repeat (SeveralTransforms protocol count) h = refl
-by_repeat (TransformNotOffered protocol number) h = refl
-by_repeat (Id protocol number found offered) h = refl
-by_repeat (Attributes protocol number) h = refl
-by_repeat (OtherSet found chosen) h = absurd (miss unrepeated 12 tt h)
-by_repeat (OtherTransform protocol found chosen) h = absurd (miss unrepeated 13 tt h)
-by_repeat NothingChosen h = absurd (miss unrepeated 14 tt h)
+  pub by_repeat : Refused 15 ≡ lawful_by x
+  by_repeat = by_case x refl
 
 pub lawful-judged : (booked : Bool) (book offer reply : List ℕ) (x : Difference) (r : Lawfulness) → x ≡ first_difference booked book offer reply →
     r ≡ lawful_by x → r ≡ reply_lawful booked book offer reply

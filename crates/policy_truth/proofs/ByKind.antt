@@ -15,7 +15,7 @@ use Rattle.sa_coding.specs.Coding.{fixed_wrong, is_life_type, value_length, from
 use Rattle.sa_wholes.specs.Wholes.{One, Whole, alone, pair, Apart, from_none, from_one, Orderly, nothing, one_more}
 use Rattle.sa_wholes.proofs.Heads.{alike-head, head-alike}
 use Rattle.sa_wholes.proofs.Wholes.{Reads}
-use Rattle.policy_suiting.specs.Suiting.{Offered, single, lifetime, told, offered_list, at_front, behind}
+use Rattle.policy_suiting.specs.Suiting.{PutIn, Offered, single, lifetime, told, offered_list, at_front, behind}
 use Rattle.policy_suiting.proofs.Exactly.{Within, sum, put-sum, put_split, within_more, none_within, exactly_wanted, AllWithin, same_kind, none_of, apart, kind_own, other_kinds, gathered}
 use Rattle.policy_suiting.proofs.AttributeList.{LifeType, life-is, life-fixed, told-alone, told-pair, same_type, same_unit, weight, weight_some}
 use Rattle.policy_truth.specs.Truth.{OneKind, one_type, one_unit, There, AllThere}
@@ -27,10 +27,15 @@ module _ {A B : Type 0} (f : A → B) where
   within-map (rest, at_front) = (_, at_front)
   within-map (rest, behind {y = y} q) = within_more (f y) (within-map (_, q))
 
+  -- what was put into the list of a first one and the rest is that one, or was put into the rest
+  put_map : (x : A) {y : B} {rest : List B} (l : List A) → PutIn y rest (f x ∷ map f l) →
+      (Within y (map f l) → (z : A) × (f z ≡ y) × Within z l) → (z : A) × (f z ≡ y) × Within z (x ∷ l)
+  put_map x l at_front below = (x, refl, (_, at_front))
+  put_map x l (behind q) below = let (z, e, m) = below (_, q) in (z, e, within_more x m)
+
   pub map-within : {y : B} (l : List A) → Within y (map f l) → (x : A) × (f x ≡ y) × Within x l
   map-within [] m = absurd (none_within m)
-  map-within (x ∷ l) (rest, at_front) = (x, refl, (_, at_front))
-  map-within (x ∷ l) (rest, behind q) = let (z, e, m) = map-within l (_, q) in (z, e, within_more x m)
+  map-within (x ∷ l) (rest, q) = put_map x l q (map-within l)
 
   pub map_both : (a b : List A) → map f (a ++ b) ≡ map f a ++ map f b
   map_both [] b = refl

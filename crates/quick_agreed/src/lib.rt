@@ -1,4 +1,6 @@
 // The agreed values of a set: SPIs and transforms. Every function takes any bytes.
+#![tactic(auto)]
+
 ghost use Rattle.std.specs.Prelude.{◌≡◌};
 ghost use Rattle.quick_agreed.specs.Agreed.{spis_of, transforms_in, spi_for, own_spis};
 

@@ -1,4 +1,6 @@
 // What the ends ask of a message that is delivered, from its reading on. Every function takes any bytes.
+#![tactic(auto)]
+
 ghost use Rattle.std.specs.Prelude.{◌≡◌};
 ghost use Rattle.quick_check.specs.Checks.{cookies_not_own, quick_code, read_code};
 

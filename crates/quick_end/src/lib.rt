@@ -1,4 +1,6 @@
 // What an end is, what it is asked, and a fresh one.
+#![tactic(auto)]
+
 ghost use Rattle.std.specs.Prelude.{◌≡◌, ◌≤◌, length};
 ghost use Rattle.quick_end.specs.Fresh.{is_idle, is_initiator, is_given_up, fresh_code, idle, own_of, fresh};
 

@@ -1,4 +1,6 @@
 // The shape of a message and what is read by it: whether two are equal apart from the hash, and the nonce. Every function takes any bytes.
+#![tactic(auto)]
+
 ghost use Rattle.std.specs.Prelude.{◌≡◌};
 ghost use Rattle.quick_shape.specs.Shapes.{type_is, shape, is_longer, alike, count_of, shape_of, nonce_in, nonce};
 

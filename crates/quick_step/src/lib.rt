@@ -1,4 +1,6 @@
 // What a step of a quick mode end answers, and what begin, deliver and tick do alike.
+#![tactic(auto)]
+
 ghost use Rattle.std.specs.Prelude.{◌≡◌, min};
 ghost use Rattle.quick_step.specs.Steps.{small, kept, with_state};
 

@@ -14,6 +14,23 @@ pub returns-in-ReplyRefused : goal.returns-in-ReplyRefused
 unfolding lawful_by
 returns-in-ReplyRefused c = search by_reply
 
-pub returns-in_default : goal.returns-in_default
+pub returns-in-Nothing : goal.returns-in-Nothing
 unfolding lawful_by
-returns-in_default c = search by_repeat
+returns-in-Nothing c = rw c.in-Nothing.is
+
+pub returns-in-OtherSet : goal.returns-in-OtherSet
+unfolding lawful_by
+returns-in-OtherSet c = rw c.in-OtherSet.is
+
+pub returns-in-OtherTransform : goal.returns-in-OtherTransform
+unfolding lawful_by
+returns-in-OtherTransform c = rw c.in-OtherTransform.is
+
+pub returns-in-NothingChosen : goal.returns-in-NothingChosen
+unfolding lawful_by
+returns-in-NothingChosen c = rw c.in-NothingChosen.is
+
+pub returns-in_default : goal.returns-in_default
+returns-in_default c =
+    let d = c.in_default in
+    by_repeat _ d.not-Nothing d.not-OfferRefused d.not-BookRefused d.not-ReplyRefused d.not-OtherSet d.not-OtherTransform d.not-NothingChosen
