@@ -117,12 +117,7 @@ pub fn tallowbrim_add(table: &mut Table, destination: u32, protocol: u8, spi: u3
 }
 
 // A life ends.
-pub fn tallowbrim_remove(
-    table: &mut Table,
-    destination: u32,
-    protocol: u8,
-    spi: u32,
-) -> u32
+pub fn tallowbrim_remove(table: &mut Table, destination: u32, protocol: u8, spi: u32) -> u32
     ensures { outcome_given (removed table.old (key_of destination protocol spi)) ≡ (result, table.new) }
 {
     let outcome = table::remove(table, key_of(destination, protocol, spi));

@@ -94,13 +94,7 @@ fn place_words(body: &[u8], at: Places) -> [u64; 4]
 }
 
 // What stands at places of a message's offer: the set's number, the proposal's protocol, the transform's number.
-pub fn tallowbrim_place(
-    m: &[u8],
-    set: u8,
-    proposal: u8,
-    transform: u8,
-    out: &mut [u64; 4],
-) -> u32
+pub fn tallowbrim_place(m: &[u8], set: u8, proposal: u8, transform: u8, out: &mut [u64; 4]) -> u32
     ensures { given 4 (place_answer m.now (record { set = set; line = 0; proposal = proposal; transform = transform })) out.old ≡ (result, out.new) }
 {
     let offer = message_offer(m);

@@ -1,13 +1,11 @@
 -- A law for each way out of the functions on causes.
 use Prim.Native.Nat.{ℕ, zero, suc, ◌+◌, ◌-◌, ◌≤◌, ◌<◌}
 use mathlib.Core.Path.{◌≡◌, refl}
-use mathlib.Core.List.{List, [], ◌∷◌}
+use mathlib.Core.List.{List, []}
 use mathlib.Core.Bool.{Bool, true, false, not, ◌&&◌, ◌||◌, or-false, or_assoc}
 use native.Mathlib.Omega.{arith}
 use lib.ListN.{length, take, drop}
 use lib.Dec.{ltb, leb, eqb}
-use types.Run.{OneOf, miss}
-use denote.Enum.Declared.{tag_of}
 use borrow.Author.Tests.{eq-eqb, ne_eqb, lt-ltb, le-ltb, not-true, not-false}
 use Rattle.wire_read.specs.Tests.{if◌then◌else◌}
 use Rattle.sa_attribute.specs.Attributes.{attribute_type, attribute_size, after_attribute, attribute, value}
@@ -19,7 +17,6 @@ use Rattle.policy_cause.specs.declared.Wish.{Wish}
 use Rattle.policy_cause.specs.declared.Cause.{Cause}
 use Rattle.policy_cause.specs.declared.Cause.TheVariants.{Suits, Id, Missing, Value, Surplus, Seconds, Kilobytes}
 use Rattle.policy_cause.specs.declared.PairCause.TheVariants as pairs
-use Rattle.policy_cause.specs.contracts.Cause.{the_type}
 use Rattle.policy_cause.specs.Causes.{◌or_else◌, first_cause, wish_of, main_wanted, quick_wanted, wanted, wanted_count, id_cause, is_there, missing_one, missing_cause, value_one, value_cause, type_wanted, is_wanted, first_surplus, surplus_cause, seconds_cause, kilobytes_cause, attributes_cause, wish_cause, transform_cause, pair_cause}
 
 -- ---- the first of two causes, and of a list

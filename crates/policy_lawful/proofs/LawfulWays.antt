@@ -1,12 +1,10 @@
 -- A law for each way out of the functions on lawful replies.
 use Prim.Native.Nat.{ℕ, ◌-◌}
 use mathlib.Core.Path.{◌≡◌, refl}
-use mathlib.Core.List.{List, [], ◌∷◌}
+use mathlib.Core.List.{List}
 use mathlib.Core.Bool.{Bool, true, false, not, ◌||◌, ◌&&◌}
 use lib.ListN.{length}
 use lib.Dec.{eqb}
-use types.Run.{OneOf, miss}
-use denote.Enum.Declared.{tag_of}
 use borrow.Author.Tests.{eq-eqb, ne_eqb}
 use Rattle.wire_read.specs.Wire.{equal}
 use Rattle.message_header.specs.Header.{exchange_of}
@@ -32,7 +30,6 @@ use Rattle.policy_lawful.specs.declared.Difference.{Difference}
 use Rattle.policy_lawful.specs.declared.Difference.TheVariants.{Nothing, OfferRefused, BookRefused, ReplyRefused, SeveralSets, SetNotOffered, Protocols, Order, SeveralTransforms, TransformNotOffered, Id, Attributes, OtherSet, OtherTransform, NothingChosen}
 use Rattle.policy_lawful.specs.declared.Lawfulness.{Lawfulness}
 use Rattle.policy_lawful.specs.declared.Lawfulness.TheVariants.{Refused, Lawful}
-use Rattle.policy_lawful.specs.contracts.Difference.{the_type}
 use Rattle.policy_lawful.specs.Lawful.{◌or_else◌, offer_refused, book_refused, reply_refused, replied_transform, offered_transform, several_transforms, transform_not_offered, other_id, other_attributes, of_each, last, has_protocol, same_protocols, same_order, protocols_differ, transforms_differ, replied_set, replied_number, offered_set, sets_differ, bodies_differ, other_transform, other_transforms, other_set, choice_differs, unread, compared, first_difference, lawful_by, reply_lawful}
 
 -- ---- the first of two differences

@@ -61,7 +61,7 @@ stands_wrong exchange behind_life_type before s =
     else behind_life_type || repeats 16 exchange before s
 
 -- "Out of bounds .. : 15"; "a broken or repeated pair is 15, where the single-type check stood"; "Fixed types must be sent fixed: 13 .. A life
--- duration .. : 13". before is what stands before the attribute, and behindLifeType says whether the last there is a life type
+-- duration .. : 13". before is what stands before the attribute, and behind_life_type says whether the last there is a life type
 unfoldable pub attribute_code : (exchange : ℕ) (behind_life_type : Bool) (before s : Bytes) → Code
 attribute_code exchange behind_life_type before s =
     if out_of_bounds s then 15

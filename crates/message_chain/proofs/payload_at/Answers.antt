@@ -1,6 +1,5 @@
 use native.Mathlib.Omega.{arith}
 use Rattle.message_chain.proofs.Ways.{walk-on, walk_end, walk-begin}
-use Prim.Native.Nat.{◌-◌}
 use Rattle.message_chain.proofs.payload_at.Goals as goal
 
 pub loop-i-init : goal.loop-i-init

@@ -8,16 +8,16 @@ overflow_add-next c = omega (arith, first-size _ _ _ _ _ _ _ _ _ c.proposal-in-T
 
 pub put_offered-requires-in-Two : goal.put_offered-requires-in-Two
 put_offered-requires-in-Two c = omega (
-    arith,
-    (first-size _ _ _ _ _ _ _ _ _ c.proposal-in-Two.ensures _ c.put_offered-first.ensures),
-    )
+  arith,
+  (first-size _ _ _ _ _ _ _ _ _ c.proposal-in-Two.ensures _ c.put_offered-first.ensures),
+)
 
 pub overflow_add-result : goal.overflow_add-result
 overflow_add-result c = omega (
-    arith,
-    (both-size _ _ _ _ _ _ _ _ _ c.proposal-in-Two.ensures _ _ _ _ c.proposal-in-Two-2.ensures
-    c.put_offered-first.ensures c.put_offered-in-Two.ensures),
-    )
+  arith,
+  (both-size _ _ _ _ _ _ _ _ _ c.proposal-in-Two.ensures _ _ _ _ c.proposal-in-Two-2.ensures
+      c.put_offered-first.ensures c.put_offered-in-Two.ensures),
+)
 
 pub returns-in-One : goal.returns-in-One
 returns-in-One c = search set-one

@@ -11,18 +11,18 @@ returns-then-code-ne0 c = search deliver-refused
 
 pub at_initiator-requires : goal.at_initiator-requires
 at_initiator-requires c = let reads = c.read-read.ensures in (
-    read_fits _ _ reads _ _ _ _ c.read_code-code.ensures c.if-code-ne0.false,
-    shape-found _ _ reads _ _ c.count_of.ensures c.shape-found.ensures,
-    )
+  read_fits _ _ reads _ _ _ _ c.read_code-code.ensures c.if-code-ne0.false,
+  shape-found _ _ reads _ _ c.count_of.ensures c.shape-found.ensures,
+)
 
 pub returns-then-is_initiator : goal.returns-then-is_initiator
 returns-then-is_initiator c = search deliver-initiator
 
 pub at_responder-requires : goal.at_responder-requires
 at_responder-requires c = let reads = c.read-read.ensures in (
-    read_fits _ _ reads _ _ _ _ c.read_code-code.ensures c.if-code-ne0.false,
-    shape-found _ _ reads _ _ c.count_of.ensures c.shape-found.ensures,
-    )
+  read_fits _ _ reads _ _ _ _ c.read_code-code.ensures c.if-code-ne0.false,
+  shape-found _ _ reads _ _ c.count_of.ensures c.shape-found.ensures,
+)
 
 pub returns : goal.returns
 returns c = search deliver-responder

@@ -13,10 +13,10 @@ put_line_sets-requires t c = (omega arith, (omega arith, omega (arith, set-fits 
 
 pub overflow_add-result : goal.overflow_add-result
 overflow_add-result t c = omega (
-    arith,
-    (set-fits _ _ _ _ _ _ _ _ _ c.put_line_set-first.ensures),
-    sets_fit _ _ _ _ _ _ _ _ _ c.put_line_sets.ensures,
-    )
+  arith,
+  (set-fits _ _ _ _ _ _ _ _ _ c.put_line_set-first.ensures),
+  sets_fit _ _ _ _ _ _ _ _ _ c.put_line_sets.ensures,
+)
 
 pub returns : goal.returns
 returns t c = search sets-on

@@ -10,10 +10,10 @@ overflow_add-at c = omega (arith, proposal-fits _ _ _ _ _ _ _ _ _ _ c.put_line_p
 
 pub overflow_add-result : goal.overflow_add-result
 overflow_add-result c = omega (
-    arith,
-    (proposal-fits _ _ _ _ _ _ _ _ _ _ c.put_line_proposal-first.ensures),
-    proposal-fits _ _ _ _ _ _ _ _ _ _ c.put_line_proposal-2.ensures,
-    )
+  arith,
+  (proposal-fits _ _ _ _ _ _ _ _ _ _ c.put_line_proposal-first.ensures),
+  proposal-fits _ _ _ _ _ _ _ _ _ _ c.put_line_proposal-2.ensures,
+)
 
 pub returns : goal.returns
 returns c = search set_both

@@ -1,4 +1,3 @@
-use Prim.Native.Nat.{◌-◌}
 use native.Mathlib.Omega.{arith}
 use Rattle.wire_read.proofs.Ways.{all_zero-stop, all_zero-on, all_zero-end}
 use Rattle.wire_read.proofs.all_zero.Goals as goal

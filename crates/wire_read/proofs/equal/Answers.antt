@@ -1,4 +1,3 @@
-use Prim.Native.Nat.{◌-◌}
 use native.Mathlib.Omega.{arith}
 use Rattle.wire_read.proofs.Ways.{equal-lengths, equal-stop, equal-on, equal-end}
 use Rattle.wire_read.proofs.equal.Goals as goal
