@@ -59,16 +59,16 @@ enough (suc most) (suc more) n h g =
     rw l (ap (λ (t : List ℕ). t ++ (hex_digit_ascii (n % 10) ∷ [])) (enough most more (n / 10) (omega arith) (omega arith))))
 
 -- a number of one digit, and one of more
-pub one_digit : (n d : ℕ) → n < 10 → d ≡ 48 + n → d ∷ [] ≡ decimal_text n
+pub one_digit : (n : ℕ) → n < 10 → decimal_text n ≡ (48 + n) ∷ []
 unfolding digits_text
-one_digit n d h e = rw (add-one n, lt-ltb n 10 h) (ap (λ (x : ℕ). x ∷ []) e)
+one_digit n h = rw (add-one n, lt-ltb n 10 h)
 
-pub more_digits : (n d : ℕ) → 10 ≤ n → d ≡ 48 + n % 10 → decimal_text (n / 10) ++ (d ∷ []) ≡ decimal_text n
+pub more_digits : (n : ℕ) → 10 ≤ n → decimal_text n ≡ decimal_text (n / 10) ++ ((48 + n % 10) ∷ [])
 unfolding digits_text
-more_digits n d h e =
+more_digits n h =
     let low = lt-ltb (n % 10) 10 (omega arith) in
-    let fewer = enough (n / 10 + 1) n (n / 10) (omega arith) (omega arith) in
-    rw (add-one n, le-ltb n 10 h, low, e) (ap (λ (t : List ℕ). t ++ ((48 + n % 10) ∷ [])) fewer)
+    rw (add-one n, le-ltb n 10 h, low)
+    (ap (λ (t : List ℕ). t ++ ((48 + n % 10) ∷ [])) (enough n (n / 10 + 1) (n / 10) (omega arith) (omega arith)))
 
 -- ---- bytes in hex
 

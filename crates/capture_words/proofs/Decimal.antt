@@ -2,42 +2,15 @@
 use Prim.Native.Nat.{ℕ, zero, suc, ◌+◌, ◌-◌, ◌/◌, ◌%◌, ◌^◌, ◌≤◌, ◌<◌}
 use mathlib.Core.Path.{◌≡◌, sym, ap, ◌∙◌}
 use mathlib.Core.List.{[], ◌∷◌, ◌++◌, append-nil, append_assoc}
-use mathlib.Core.Bool.{true}
 use native.Mathlib.Omega.{arith, pow_step}
 use native.Mathlib.Numerals.{add-one}
 use lib.ListN.{length, drop, set, length-set}
-use lib.Dec.{ltb}
 use lib.Seq.{drop-cons, drop-length, drop-set-lt, get_or-set_same}
-use borrow.Author.Tests.{lt-ltb, le-ltb, ltb-false}
-use Rattle.io.specs.Digits.{hex_digit_ascii}
 use Rattle.wire_read.specs.Wire.{Bytes}
-use Rattle.wire_read.proofs.Tests.{by_test, never}
-use Rattle.bench_words.specs.Say.{Said, digits_text, decimal_text}
-use Rattle.bench_words.proofs.SayLaws.{said-text}
+use Rattle.wire_read.proofs.Tests.{never}
+use Rattle.bench_words.specs.Say.{Said, decimal_text}
+use Rattle.bench_words.proofs.SayLaws.{said-text, one_digit, more_digits}
 use Rattle.capture_words.specs.Texts.{marked_text}
-
--- however many digits may come, if they are enough
-enough : (most more n : ℕ) → n < most → n < more → digits_text most n ≡ digits_text more n
-unfolding digits_text
-enough zero more n h g = absurd (omega arith)
-enough (suc most) zero n h g = absurd (omega arith)
-enough (suc most) (suc more) n h g =
-    by_test (ltb n 10)
-    (λ l. rw l)
-    (λ l.
-    let ten = ltb-false n 10 l in
-    rw l (ap (λ (t : Bytes). t ++ (hex_digit_ascii (n % 10) ∷ [])) (enough most more (n / 10) (omega arith) (omega arith))))
-
--- one digit, and one digit more
-one_digit : (n : ℕ) → n < 10 → decimal_text n ≡ (48 + n) ∷ []
-unfolding digits_text
-one_digit n h = rw (add-one n, lt-ltb n 10 h)
-
-more_digits : (n : ℕ) → 10 ≤ n → decimal_text n ≡ decimal_text (n / 10) ++ ((48 + n % 10) ∷ [])
-unfolding digits_text
-more_digits n h =
-    let low : ltb (n % 10) 10 ≡ true = lt-ltb (n % 10) 10 (omega arith) in
-    rw (add-one n, le-ltb n 10 h, low) (ap (λ (t : Bytes). t ++ ((48 + n % 10) ∷ [])) (enough n (n / 10 + 1) (n / 10) (omega arith) (omega arith)))
 
 -- what is set at a place stands in front of what is behind it
 set_front : (text : Bytes) (at b : ℕ) → at < length text → drop at (set text at b) ≡ b ∷ drop (suc at) text

@@ -8,7 +8,6 @@ use lib.ListN.{length}
 use borrow.Author.Tests.{lt-ltb, le-ltb, eq-eqb, ne_eqb}
 use Rattle.wire_read.specs.Wire.{Bytes}
 use Rattle.wire_write.specs.Put.{paste}
-use Rattle.io.specs.Digits.{hex_digit_ascii}
 use Rattle.message_chain.specs.declared.Payload.{Payload}
 use Rattle.message_chain.specs.Message.{payload_at}
 use Rattle.policy_choice.specs.declared.Choice.{Choice}
@@ -16,7 +15,7 @@ use Rattle.sequence_record.specs.declared.Verdict.{Verdict}
 use Rattle.capture_frame.specs.declared.Addresses.{Addresses}
 use Rattle.capture_record.specs.declared.Listed.{Listed}
 use Rattle.capture_record.specs.Listing.{ah_protocol}
-use Rattle.bench_words.specs.Say.{Said, decimal_text, number_text, verdict_text}
+use Rattle.bench_words.specs.Say.{Said, hex_digit_ascii, decimal_text, number_text, verdict_text}
 use Rattle.bench_words.proofs.SayLaws.{said-on, said-both, said-text}
 use Rattle.capture_words.specs.Texts.{marked_text, counted_text, six_digits, hex_digits, address_text, addressed_text, enciphered_text, payload_text, payloads_text, read_text, named_text, spi_text, packet_text, what_text, choice_text}
 

@@ -2,7 +2,6 @@
 use Rattle.std.specs.Prelude.{ℕ, zero, suc, ◌/◌, ◌%◌, [], ◌∷◌, ◌++◌, eqb, ltb}
 use Rattle.wire_read.specs.Wire.{Bytes}
 use Rattle.wire_read.specs.Tests.{if◌then◌else◌}
-use Rattle.io.specs.Digits.{last_digits}
 use Rattle.message_chain.specs.declared.Payload.{Payload}
 use Rattle.message_chain.specs.Message.{payload_at}
 use Rattle.sa_fields.specs.declared.ProposalNumber.{ProposalNumber}
@@ -16,7 +15,7 @@ use Rattle.capture_frame.specs.declared.Ports.{Ports}
 use Rattle.capture_record.specs.declared.Listed.{Listed}
 use Rattle.capture_record.specs.declared.Listed.TheVariants as Listings
 use Rattle.capture_record.specs.Listing.{ah_protocol}
-use Rattle.bench_words.specs.Say.{decimal_text, number_text, refused_text, verdict_text, transforms_text}
+use Rattle.bench_words.specs.Say.{hex_digit_ascii, decimal_text, number_text, refused_text, verdict_text, transforms_text}
 
 -- ---- numbers
 
@@ -27,6 +26,11 @@ marked_text mark n = (mark ∷ []) ++ decimal_text n
 -- a text, a space and a number
 abbrev pub counted_text : (text : Bytes) (n : ℕ) → Bytes
 counted_text text n = text ++ number_text n
+
+-- the last so many digits of a number in a base, the most significant first
+abbrev pub last_digits : (base k n : ℕ) → Bytes
+last_digits base zero n = []
+last_digits base (suc k) n = last_digits base k (n / base) ++ (hex_digit_ascii (n % base) ∷ [])
 
 -- "at least six digits behind the point (a field over 999999 as it is)"
 unfoldable pub six_digits : (n : ℕ) → Bytes

@@ -1,5 +1,7 @@
 // What is printed of a record of a capture. Each function puts its text at a place of a buffer and gives back the place behind
 // it; what does not fit is left out.
+#![tactic(auto)]
+
 mod number;
 
 ghost use Rattle.bench_words.specs.Say.{Said};

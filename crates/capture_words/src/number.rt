@@ -1,7 +1,6 @@
 // Numbers as a listing has them.
 ghost use Rattle.std.specs.Prelude.{◌≡◌, ◌%◌, ◌<◌, length, drop};
-ghost use Rattle.io.specs.Digits.{hex_digit_ascii};
-ghost use Rattle.bench_words.specs.Say.{Said, decimal_text};
+ghost use Rattle.bench_words.specs.Say.{Said, hex_digit_ascii, decimal_text};
 ghost use Rattle.capture_words.specs.Texts.{marked_text, counted_text, six_digits, hex_digits};
 
 use bench_words::say::append;

@@ -1,3 +1,4 @@
+-- Invariant: what is put so far, two digits at a time. Each way out is a law of HexLaws.
 use mathlib.Core.Path.{◌≡◌}
 use lib.ListN.{length}
 use Prim.Native.Nat.{◌≤◌, ◌-◌}

@@ -1,3 +1,4 @@
+-- Invariant: what the digits so far spell, which is at most the most that is lawful, so ten times it, and a digit, fits a u64.
 use lib.ListN.{length}
 use Prim.Native.Nat.{◌≤◌, ◌-◌}
 use Rattle.bench_words.proofs.NumberLaws.{Counting}

@@ -1,3 +1,4 @@
+-- Invariant: the bytes before i are said, behind what was said before the loop.
 use Prim.Native.Nat.{◌≤◌, ◌-◌}
 use mathlib.Core.Path.{◌≡◌}
 use lib.ListN.{length, take}

@@ -1,3 +1,5 @@
+-- Invariant: the words so far and those of what is left are one more than the line's, since a word goes on; and at most one for each byte
+-- passed, and one more, so the count fits.
 use mathlib.Core.Path.{◌≡◌}
 use lib.ListN.{length, drop}
 use Prim.Native.Nat.{◌≤◌, ◌+◌, ◌-◌}

@@ -1,3 +1,4 @@
+-- Invariant: the byte stands nowhere between from and i.
 use lib.ListN.{length, get_or}
 use mathlib.Core.Path.{◌≡◌}
 use Prim.Native.Nat.{ℕ, ◌≤◌, ◌<◌, ◌-◌}

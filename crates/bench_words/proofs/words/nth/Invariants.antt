@@ -1,3 +1,4 @@
+-- Invariant: the word is as far on from at as it is from passed words on. at is at most one byte behind the line, since find stays within it.
 use mathlib.Core.Path.{◌≡◌}
 use lib.ListN.{length, drop}
 use Prim.Native.Nat.{◌≤◌, ◌+◌, ◌-◌}

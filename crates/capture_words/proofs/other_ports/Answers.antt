@@ -1,0 +1,5 @@
+use Rattle.capture_words.proofs.Ways.{said-three}
+use Rattle.capture_words.proofs.other_ports.Goals as goal
+
+pub returns : goal.returns
+returns c = search said-three
