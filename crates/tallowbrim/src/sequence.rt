@@ -6,8 +6,8 @@ ghost use Rattle.sequence_table.specs.Table.{added, removed, packet, next_to_sen
 ghost use Rattle.sequence_table.specs.declared.table.Counted.TheVariants.{Line};
 ghost use Rattle.exports_sequence.specs.Records.{receive_of, stepped, plain_given, key_of, outcome_given, verdict_given, sending_given};
 
-use sequence_table::table::Table;
 use sequence_plain::PlainList;
+use sequence_table::table::Table;
 
 // A packet's number arrives at a lent record; `out` is for the rise.
 #[unsafe(no_mangle)]
