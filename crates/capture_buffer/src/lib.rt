@@ -1,4 +1,6 @@
 // The buffer that a file is read through: what is held of it, taking from its front, room for the next read behind it.
+#![tactic(auto)]
+
 ghost use Rattle.std.specs.Prelude.{◌≡◌};
 ghost use Rattle.capture_buffer.specs.Buffer.{held_in, taken, grown, settled};
 

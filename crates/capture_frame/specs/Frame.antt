@@ -1,6 +1,6 @@
 -- What a record of a capture carries, document 02, "One": "find IPv4 packets carrying UDP 500 or 4500, AH or ESP". s is the record's bytes
 -- from the Ethernet header on, and the checks stand in their order. Checksums are not looked at.
-use Rattle.std.specs.Prelude.{ℕ, zero, suc, ◌+◌, ◌-◌, ◌*◌, ◌/◌, ◌%◌, List, [], ◌∷◌, Bool, not, ◌||◌, ◌&&◌, length, get_or, take, drop, ltb, eqb}
+use Rattle.std.specs.Prelude.{ℕ, zero, suc, ◌+◌, ◌-◌, ◌*◌, ◌/◌, ◌%◌, List, [], ◌∷◌, Bool, not, ◌||◌, length, get_or, take, drop, ltb, eqb}
 use Rattle.wire_read.specs.Wire.{Bytes, number_at}
 use Rattle.wire_read.specs.Tests.{if◌then◌else◌}
 use Rattle.wire_read.specs.Answer.{Answer, done}

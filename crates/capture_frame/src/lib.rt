@@ -3,6 +3,8 @@
 //   IPv4      version and header length (1), service (1), total length (2), identification (2), flags and fragment offset (2),
 //             time to live (1), protocol (1), checksum (2), source (4), destination (4), options
 //   UDP       source port (2), destination port (2), length (2), checksum (2)
+#![tactic(auto)]
+
 ghost use Rattle.std.specs.Prelude.{◌≡◌, ◌+◌, ◌≤◌, length};
 ghost use Rattle.capture_frame.specs.Frame.{deciding_port, by_port, udp, by_protocol, not_ipv4, fragmented, ipv4, is_tag, ether_type, carried};
 

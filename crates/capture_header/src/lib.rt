@@ -1,6 +1,8 @@
 // The headers of a classic capture file and of its records, in either byte order.
 //   file    magic (4), major (2), minor (2), time zone (4), accuracy (4), snap length (4), link type (4)
 //   record  seconds (4), microseconds (4), captured length (4), original length (4)
+#![tactic(auto)]
+
 ghost use Rattle.std.specs.Prelude.{◌≡◌, ◌≤◌};
 ghost use Rattle.capture_header.specs.Headers.{number_in, in_order, file_header, record_header, order_cause, header_cause};
 

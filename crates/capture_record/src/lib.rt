@@ -1,5 +1,7 @@
 // What is listed of a record of a capture. What it carries goes to the existing readers; an AH or ESP packet goes to the table
 // of SA entries with integrity taken as yes, and an unknown key is added where 11 would stand.
+#![tactic(auto)]
+
 ghost use Rattle.std.specs.Prelude.{◌≡◌};
 ghost use Rattle.port4500.specs.Port.{datagram};
 ghost use Rattle.capture_frame.specs.Frame.{carried as Frame·carried, bytes_of_part};

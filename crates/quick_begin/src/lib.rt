@@ -1,4 +1,6 @@
 // Begin: an Idle initiator offers one set for each quick line.
+#![tactic(auto)]
+
 ghost use Rattle.std.specs.Prelude.{◌≡◌, ◌≤◌, length};
 ghost use Rattle.wire_write.specs.Put.{put};
 ghost use Rattle.quick_write.specs.Messages.{message_one};

@@ -1,4 +1,6 @@
 // A delivery: the checks, then what each end does in each state. A message is read once, and the shape that was found handed on.
+#![tactic(auto)]
+
 ghost use Rattle.std.specs.Prelude.{◌≡◌, ◌≤◌, length};
 ghost use Rattle.wire_write.specs.Put.{put};
 ghost use Rattle.quick_step.specs.declared.StepAnswer.TheVariants.{Refused};

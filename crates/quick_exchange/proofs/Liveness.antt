@@ -74,6 +74,8 @@ only_oldest (more o) alone = refl
 only_oldest (more o) (older p) = only_oldest o p
 
 then_oldest : {m k n : List ℕ} {log : List (List ℕ)} → Then m k log → Oldest n log → m ≡ n
+then_oldest {m = m} {k = k} (turn o) alone = elim o [ ]
+then_oldest {m = m} {k = k} (next o) alone = elim o [ ]
 then_oldest (turn o) (older p) = only_oldest o p
 then_oldest (next o) (older p) = then_oldest o p
 
@@ -361,7 +363,7 @@ past_second (MoveR.answers m output c room s h) q = refl
 past_second (MoveR.repeats output room s) q = q
 past_second (MoveR.opens m output s h d) q = refl
 past_second (MoveR.resends output room s) q = q
-past_second (MoveR.Gives-up output s) q = refl
+past_second (MoveR.gives_up output s) q = refl
 
 module _ {w : World} (f : Fresh w) where
   -- no call changes what the ends were given

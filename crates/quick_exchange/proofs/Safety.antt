@@ -38,6 +38,7 @@ use Rattle.quick_exchange.proofs.Moves.{asking, answering, past, answering_past,
 module _ (k : List ℕ) where
   pub only_heard : {m : List ℕ} {log : List (List ℕ)} → Only m log → Heard k log → alike k m ≡ true
   only_heard one (here e) = e
+  only_heard {m = m} one (there h) = elim h [ ]
   only_heard (more o) (here e) = e
   only_heard (more o) (there h) = only_heard o h
 
@@ -275,25 +276,25 @@ module _ (i r : Party) (fi fr : List (List ℕ)) (pair : Pair i.end.own r.end.ow
   stage_first (new ei er ni nr) (MoveI.opens m output room q h) = never (cc)
   stage_first (new ei er ni nr) (MoveI.repeats output room q) = never (cc)
   stage_first (new ei er ni nr) (MoveI.resends output room q) = clash (cc)
-  stage_first (new ei er ni nr) (MoveI.Gives-up output q) = clash (cc)
+  stage_first (new ei er ni nr) (MoveI.gives_up output q) = clash (cc)
   stage_first (asked a ei k o er nr) (MoveI.begins b output room q) = clash (cc)
   stage_first (asked a ei k o er nr) (MoveI.opens m output room q h) = clash (none-heard m nr h)
   stage_first (asked a ei k o er nr) (MoveI.repeats output room q) = clash (cc)
   stage_first (asked a ei k o er nr) (MoveI.resends output room q) =
       asked a ei k (rw (again i a.id (offered a) output k room (one_more i.end.progress) fi) (more o)) er nr
-  stage_first (asked a ei k o er nr) (MoveI.Gives-up output q) = asked a refl k o er nr
+  stage_first (asked a ei k o er nr) (MoveI.gives_up output q) = asked a refl k o er nr
   stage_first (half a ei k o R er) (MoveI.begins b output room q) = clash (cc)
   stage_first (half a ei k o R er) (MoveI.opens m output room q h) = opens_done i r fi fr pair a R k o (answering_past (state_of r) er) m output room h
   stage_first (half a ei k o R er) (MoveI.repeats output room q) = clash (cc)
   stage_first (half a ei k o R er) (MoveI.resends output room q) =
       half a ei k (rw (again i a.id (offered a) output k room (one_more i.end.progress) fi) (more o)) R er
-  stage_first (half a ei k o R er) (MoveI.Gives-up output q) = half a refl k o R er
+  stage_first (half a ei k o R er) (MoveI.gives_up output q) = half a refl k o R er
   stage_first (done a ei k o R er ev eg) (MoveI.begins b output room q) = never (cc)
   stage_first (done a ei k o R er ev eg) (MoveI.opens m output room q h) = never (cc)
   stage_first (done a ei k o R er ev eg) (MoveI.repeats output room q) =
       done a ei k (rw (again i a.id (message_three i.end.own a.id) output k room i.end.progress fi) (next o)) R er ev eg
   stage_first (done a ei k o R er ev eg) (MoveI.resends output room q) = clash (cc)
-  stage_first (done a ei k o R er ev eg) (MoveI.Gives-up output q) = clash (cc)
+  stage_first (done a ei k o R er ev eg) (MoveI.gives_up output q) = clash (cc)
 
   pub stage_second : {x : After} → Stage i r fi fr → MoveR r fi x → Stage i (left x) fi (logged x fr)
   unfolding one_more with_state
@@ -303,24 +304,24 @@ module _ (i r : Party) (fi fr : List (List ℕ)) (pair : Pair i.end.own r.end.ow
   stage_second (new ei er ni nr) (MoveR.repeats output room q) = never (cc)
   stage_second (new ei er ni nr) (MoveR.opens m output q h d) = never (cc)
   stage_second (new ei er ni nr) (MoveR.resends output room q) = clash (cc)
-  stage_second (new ei er ni nr) (MoveR.Gives-up output q) = clash (cc)
+  stage_second (new ei er ni nr) (MoveR.gives_up output q) = clash (cc)
   stage_second (asked a ei k o er nr) (MoveR.answers m output s room q h) = answers_half i r fi fr pair a ei k o nr m output s room h
   stage_second (asked a ei k o er nr) (MoveR.repeats output room q) = never (cc)
   stage_second (asked a ei k o er nr) (MoveR.opens m output q h d) = never (cc)
   stage_second (asked a ei k o er nr) (MoveR.resends output room q) = clash (cc)
-  stage_second (asked a ei k o er nr) (MoveR.Gives-up output q) = clash (cc)
+  stage_second (asked a ei k o er nr) (MoveR.gives_up output q) = clash (cc)
   stage_second (half a ei k o R er) (MoveR.answers m output s room q h) = clash (cc)
   stage_second (half a ei k o R er) (MoveR.repeats output room q) = half a ei k o (replied_again a r fr output R room r.end.progress) er
   stage_second (half a ei k o R er) (MoveR.opens m output q h d) =
       clash (sym d ∙ alike_trans m (offered a) (got_of r) (only_heard m o h) (alike_sym (got_of r) (offered a) R.from))
   stage_second (half a ei k o R er) (MoveR.resends output room q) = half a ei k o (replied_again a r fr output R room (one_more r.end.progress)) er
-  stage_second (half a ei k o R er) (MoveR.Gives-up output q) = half a ei k o R refl
+  stage_second (half a ei k o R er) (MoveR.gives_up output q) = half a ei k o R refl
   stage_second (done a ei k o R er ev eg) (MoveR.answers m output s room q h) = clash (cc)
   stage_second (done a ei k o R er ev eg) (MoveR.repeats output room q) = done a ei k o (replied_again a r fr output R room r.end.progress) er ev eg
   stage_second (done a ei k o R er ev eg) (MoveR.opens m output q h d) = done a ei k o R refl ev eg
   stage_second (done a ei k o R er ev eg) (MoveR.resends output room q) =
       done a ei k o (replied_again a r fr output R room (one_more r.end.progress)) er ev eg
-  stage_second (done a ei k o R er ev eg) (MoveR.Gives-up output q) = done a ei k o R refl ev eg
+  stage_second (done a ei k o R er ev eg) (MoveR.gives_up output q) = done a ei k o R refl ev eg
 
 -- ---- at every moment
 

@@ -1,4 +1,6 @@
 // Message 2 against the message that was sent: whether it is taken, and what is agreed by it. Every function takes any bytes.
+#![tactic(auto)]
+
 ghost use Rattle.std.specs.Prelude.{◌≡◌};
 ghost use Rattle.quick_taken.specs.Taken.{proposal_taken, set_taken, replied_set, offered_set, identities_same, taken_code, agreed_two};
 

@@ -1,4 +1,6 @@
 // A tick: an end that waits sends its kept message again, up to four sends.
+#![tactic(auto)]
+
 ghost use Rattle.std.specs.Prelude.{◌≡◌, ◌<◌};
 ghost use Rattle.quick_step.specs.Steps.{after_step};
 ghost use Rattle.quick_tick.specs.Tick.{tick_code, one_more, is_open, ticked};

@@ -1,4 +1,6 @@
 // The three messages that the ends write.
+#![tactic(auto)]
+
 ghost use Rattle.std.specs.Prelude.{◌≡◌, min, ◌+◌, ◌*◌, ◌≤◌, length};
 ghost use Rattle.wire_write.specs.Put.{paste, put};
 ghost use Rattle.policy_reply.specs.Reply.{sa_of};

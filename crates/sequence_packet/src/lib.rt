@@ -1,6 +1,8 @@
 // The SPI and the sequence number of a packet.
 //   AH   next header (1), length (1), reserved (2), SPI (4), number (4), integrity value
 //   ESP  SPI (4), number (4), the rest enciphered
+#![tactic(auto)]
+
 ghost use Rattle.std.specs.Prelude.{◌≡◌};
 ghost use Rattle.sequence_packet.specs.Packets.{known, ah, esp, read};
 

@@ -1,5 +1,7 @@
 // The plain window: the accepted numbers of one life as a list, which is looked through at every step. It answers as the window of
 // sequence_record does up to 4,096 acceptances, and is there to be read and compared with: the window is the fast one.
+#![tactic(auto)]
+
 ghost use Rattle.std.specs.Prelude.{◌≡◌, ◌-◌, max, min};
 ghost use Rattle.sequence_record.specs.Receive.{behind, verdict_answer};
 ghost use Rattle.sequence_history.specs.History.{highest, member};

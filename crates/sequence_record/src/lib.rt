@@ -1,5 +1,7 @@
 // The receive record of one life: the highest accepted number, and which of the 64 numbers up to it were accepted. It goes in by
 // value and comes back; `step_in_place` is the same step where the caller's record stands.
+#![tactic(auto)]
+
 ghost use Rattle.std.specs.Prelude.{◌≡◌, min, ◌<◌, ◌≤◌};
 ghost use Rattle.sequence_record.specs.Receive.{new_receive, behind, shifted, judged, loss_line};
 

@@ -1,0 +1,21 @@
+use Rattle.sequence_table.proofs.Ways.{first-end, free-here, free_on}
+use Rattle.sequence_table.specs.Table.{free}
+use native.Mathlib.Omega.{arith}
+use borrow.Author.Rules.{rules}
+use Rattle.sequence_table.proofs.table.free.Goals as goal
+
+pub loop-room-init : goal.loop-room-init
+unfolding free
+loop-room-init c = search rules
+
+pub returns-then-t-room-eq0 : goal.returns-then-t-room-eq0
+unfolding free
+returns-then-t-room-eq0 c = search free-here
+
+pub loop-room-preserved : goal.loop-room-preserved
+unfolding free
+loop-room-preserved c = (omega arith, search free_on)
+
+pub returns : goal.returns
+unfolding free
+returns c = search first-end
