@@ -1,14 +1,13 @@
 -- What is said behind something else is said as one; the digits of a number, and of bytes, as the code finds them.
-use Prim.Native.Nat.{ℕ, zero, suc, ◌+◌, ◌-◌, ◌/◌, ◌%◌, ◌^◌, ◌≤◌, ◌<◌, min}
+use Prim.Native.Nat.{ℕ, zero, suc, ◌+◌, ◌/◌, ◌%◌, ◌≤◌, ◌<◌, min}
 use mathlib.Core.Path.{◌≡◌, refl, sym, ap, subst, ◌∙◌}
 use mathlib.Core.List.{List, [], ◌∷◌, ◌++◌}
-use native.Mathlib.Omega.{arith, pow_step}
+use native.Mathlib.Omega.{arith}
 use native.Mathlib.Numerals.{add-one}
 use lib.ListN.{length, get_or, take, length-append}
 use lib.Seq.{take-suc, take_all}
 use lib.Dec.{eqb, ltb, leb}
 use borrow.Author.Tests.{lt-ltb, le-ltb, leb-true, leb-false, ltb-true, ltb-false, eq-eqb, ne_eqb}
-use Rattle.io.specs.Digits.{hex_digit_ascii, last_digits, IsDigitCount}
 use Rattle.wire_read.proofs.Tests.{by_test, if_then, if_else}
 use Rattle.wire_write.specs.Put.{paste}
 use Rattle.wire_write.proofs.Laws.{length_paste, paste-append, paste_past}
@@ -18,7 +17,7 @@ use Rattle.policy_choice.specs.declared.Transforms.TheVariants.{One, Two}
 use Rattle.sequence_record.specs.declared.Verdict.{Verdict}
 use Rattle.sequence_record.specs.declared.Verdict.TheVariants.{Accepted, Refused}
 use Rattle.sequence_record.specs.declared.LossLine.{LossLine}
-use Rattle.bench_words.specs.Say.{Said, digits_text, decimal_text, number_text, hex_byte_text, hex_text, word_text, refused_text, verdict_text, loss_text, transforms_text}
+use Rattle.bench_words.specs.Say.{Said, hex_digit_ascii, digits_text, decimal_text, number_text, hex_byte_text, hex_text, word_text, refused_text, verdict_text, loss_text, transforms_text}
 
 module _ (l m n : List ℕ) (at r s : ℕ) (xs ys : List ℕ) where
   -- what would be put past the end is left out, wherever that is
@@ -47,38 +46,29 @@ said-text l m at r xs text p e = subst (λ (t : List ℕ). Said l at t r m) e p
 
 -- ---- numbers
 
-digits_one : (n : ℕ) → n < 10 → last_digits 10 1 n ≡ hex_digit_ascii n ∷ []
-digits_one n h = let e : n % 10 ≡ n = omega arith in ap (λ (d : ℕ). hex_digit_ascii d ∷ []) e
-
-pred : (k : ℕ) → suc k - 1 ≡ k
-pred k = omega arith
-
--- the fewest digits that hold a number are its text
-pub digits_text_lem : (most k n : ℕ) → suc k ≤ most → IsDigitCount 10 1 n (suc k) → last_digits 10 (suc k) n ≡ digits_text most n
+-- however many digits may come, if they are enough
+enough : (most more n : ℕ) → n < most → n < more → digits_text most n ≡ digits_text more n
 unfolding digits_text
-digits_text_lem zero k n h f = absurd (omega arith)
-digits_text_lem (suc most) zero n h (a, b, c) =
-    let small : n < 10 = omega (arith, pow_step 10 0) in
-    digits_one n small ∙ if_then (ltb n 10) _ _ (lt-ltb n 10 small)
-digits_text_lem (suc most) (suc k) n h (a, b, c) =
-    let low : 10 ^ suc k ≤ n = rw (pred (suc k)) at (c (omega arith)) in
-    let ten : 10 ≤ n = omega (arith, pow_step 10 k) in
-    let fewer : IsDigitCount 10 1 (n / 10) (suc k) = (omega arith, omega (arith, pow_step 10 (suc k)), λ more. rw (pred k) (omega (arith, pow_step 10 k))) in
-    if_else (ltb n 10) _ _ (le-ltb n 10 ten) _ (ap (λ (t : List ℕ). t ++ (hex_digit_ascii (n % 10) ∷ [])) (digits_text_lem most k (n / 10) (omega arith) fewer))
+enough zero more n h g = absurd (omega arith)
+enough (suc most) zero n h g = absurd (omega arith)
+enough (suc most) (suc more) n h g =
+    by_test (ltb n 10)
+    (λ l. rw l)
+    (λ l.
+    let ten = ltb-false n 10 l in
+    rw l (ap (λ (t : List ℕ). t ++ (hex_digit_ascii (n % 10) ∷ [])) (enough most more (n / 10) (omega arith) (omega arith))))
 
-below_power : (k : ℕ) → k < 10 ^ k
-below_power zero = omega (arith, pow_step 10 0)
-below_power (suc k) = omega (arith, below_power k, pow_step 10 k)
+-- a number of one digit, and one of more
+pub one_digit : (n d : ℕ) → n < 10 → d ≡ 48 + n → d ∷ [] ≡ decimal_text n
+unfolding digits_text
+one_digit n d h e = rw (add-one n, lt-ltb n 10 h) (ap (λ (x : ℕ). x ∷ []) e)
 
-enough : (n k : ℕ) → IsDigitCount 10 1 n (suc k) → suc k ≤ n + 1
-enough n zero f = omega arith
-enough n (suc k) (a, b, c) = let low : 10 ^ suc k ≤ n = rw (pred (suc k)) at (c (omega arith)) in omega (arith, below_power (suc k))
-
--- what the call of io puts is the number's text
-pub digits_said : (l m : List ℕ) (at r n k : ℕ) (there : List ℕ) → IsDigitCount 10 1 n k → take k there ≡ last_digits 10 k n → Said l at (take k there) r m →
-    Said l at (decimal_text n) r m
-digits_said l m at r n zero there (a, b, c) e p = absurd (omega arith)
-digits_said l m at r n (suc k) there f e p = said-text l m at r (take (suc k) there) (decimal_text n) p (e ∙ digits_text_lem (n + 1) k n (enough n k f) f)
+pub more_digits : (n d : ℕ) → 10 ≤ n → d ≡ 48 + n % 10 → decimal_text (n / 10) ++ (d ∷ []) ≡ decimal_text n
+unfolding digits_text
+more_digits n d h e =
+    let low = lt-ltb (n % 10) 10 (omega arith) in
+    let fewer = enough (n / 10 + 1) n (n / 10) (omega arith) (omega arith) in
+    rw (add-one n, le-ltb n 10 h, low, e) (ap (λ (t : List ℕ). t ++ ((48 + n % 10) ∷ [])) fewer)
 
 -- ---- bytes in hex
 

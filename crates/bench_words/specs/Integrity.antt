@@ -1,5 +1,5 @@
 -- The word that says whether a packet's integrity holds: `yes` or `no`.
-use Rattle.std.specs.Prelude.{ℕ, [], ◌∷◌, true, false}
+use Rattle.std.specs.Prelude.{[], ◌∷◌, true, false}
 use Rattle.wire_read.specs.Tests.{if◌then◌else◌}
 use Rattle.wire_read.specs.Wire.{Bytes, equal}
 use Rattle.bench_words.specs.declared.integrity.Integrity.{Integrity}

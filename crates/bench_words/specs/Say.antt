@@ -1,7 +1,6 @@
 -- What an answer says, as bytes, and where they are put.
 use Rattle.std.specs.Prelude.{ℕ, zero, suc, ◌+◌, ◌/◌, ◌%◌, min, ◌≡◌, [], ◌∷◌, ◌++◌, length, eqb, ltb}
 use Rattle.wire_read.specs.Wire.{Bytes}
-use Rattle.io.specs.Digits.{hex_digit_ascii}
 use Rattle.wire_read.specs.Tests.{if◌then◌else◌}
 use Rattle.wire_write.specs.Put.{paste}
 use Rattle.sequence_record.specs.declared.Verdict.{Verdict}
@@ -13,6 +12,10 @@ use Rattle.policy_choice.specs.declared.Transforms.TheVariants.{One, Two}
 -- the text was put into the buffer from a place on, and r is the place behind it. What does not fit is left out, and the buffer is full
 abbrev pub Said : (buffer : Bytes) (at : ℕ) (text : Bytes) (r : ℕ) (after : Bytes) → Type 0
 Said buffer at text r after = (after ≡ paste buffer at text) × (r ≡ min (at + length text) (length after))
+
+-- the ASCII code of a digit below 16: `0` to `9`, then `a` to `f`
+abbrev pub hex_digit_ascii : (d : ℕ) → ℕ
+hex_digit_ascii d = if ltb d 10 then 48 + d else 87 + d
 
 -- a number in decimal, with no zero in front, of at most so many digits; as many as the number and one more are always enough
 unfoldable pub digits_text : (most n : ℕ) → Bytes

@@ -26,9 +26,12 @@ pub fn append(buffer: &mut [u8], at: usize, text: &[u8]) -> usize
 pub fn digits(out: &mut [u8], said: usize, n: u64) -> usize
     ensures { Said out.old said (decimal_text n) result out.new }
 {
-    let mut digits = [0u8; 20];
-    let count = io::decimal(n, &mut digits);
-    append(out, said, &digits[..count])
+    if n < 10 {
+        append(out, said, &[digit(n as u8)])
+    } else {
+        let said = digits(out, said, n / 10);
+        append(out, said, &[digit((n % 10) as u8)])
+    }
 }
 
 // Puts a space and a number.

@@ -1,4 +1,6 @@
 // What other languages call to read a capture: its headers, and what a record carries.
+#![tactic(auto)]
+
 ghost use Rattle.std.specs.Prelude.{◌≡◌, [], ◌∷◌};
 ghost use Rattle.exports_words.specs.Given.{words, given};
 ghost use Rattle.capture_header.specs.Headers.{file_header, record_header, header_cause, order_value, file_header_answer, record_header_answer, header_cause_answer};
@@ -28,8 +30,7 @@ fn order_of(order: u64) -> Order
 }
 
 // The first 24 bytes of a capture file: its byte order.
-#[unsafe(no_mangle)]
-pub extern "C" fn tallowbrim_file_header(s: &[u8], out: &mut [u64; 1]) -> u32
+pub fn tallowbrim_file_header(s: &[u8], out: &mut [u64; 1]) -> u32
     ensures { given 1 (file_header_answer (file_header s.now)) out.old ≡ (result, out.new) }
 {
     let header = capture_header::file_header(s);
@@ -58,8 +59,7 @@ fn cause_words(cause: HeaderCause) -> [u64; 3]
 }
 
 // What a file is whose header is refused.
-#[unsafe(no_mangle)]
-pub extern "C" fn tallowbrim_header_cause(s: &[u8], out: &mut [u64; 3]) -> u32
+pub fn tallowbrim_header_cause(s: &[u8], out: &mut [u64; 3]) -> u32
     ensures { given 3 (header_cause_answer (header_cause s.now)) out.old ≡ (result, out.new) }
 {
     *out = cause_words(capture_header::header_cause(s));
@@ -67,8 +67,7 @@ pub extern "C" fn tallowbrim_header_cause(s: &[u8], out: &mut [u64; 3]) -> u32
 }
 
 // The 16 bytes in front of a record; the order is 1 for big-endian, anything else for little-endian.
-#[unsafe(no_mangle)]
-pub extern "C" fn tallowbrim_record_header(order: u64, s: &[u8], out: &mut [u64; 5]) -> u32
+pub fn tallowbrim_record_header(order: u64, s: &[u8], out: &mut [u64; 5]) -> u32
     ensures { given 5 (record_header_answer (record_header (order_of order) s.now)) out.old ≡ (result, out.new) }
 {
     let header = capture_header::record_header(order_of(order), s);
@@ -137,8 +136,7 @@ fn frame_words(frame: Frame) -> [u64; 5]
 }
 
 // What a record carries that was so long and of which these bytes were captured.
-#[unsafe(no_mangle)]
-pub extern "C" fn tallowbrim_carried(original: u32, s: &[u8], out: &mut [u64; 5]) -> u32
+pub fn tallowbrim_carried(original: u32, s: &[u8], out: &mut [u64; 5]) -> u32
     ensures { given 5 (frame_answer (carried original s.now)) out.old ≡ (result, out.new) }
 {
     *out = frame_words(capture_frame::carried(original, s));

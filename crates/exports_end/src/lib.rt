@@ -1,5 +1,7 @@
 // A quick mode end as the 398 bytes that a caller in another language lends: its progress in the first 32, what it is given once behind them.
 // Every function takes any bytes: one past the end reads as 0, and is not written.
+#![tactic(auto)]
+
 ghost use Rattle.std.specs.Prelude.{◌≡◌};
 ghost use Rattle.wire_write.specs.Put.{paste};
 ghost use Rattle.exports_end.specs.Ends.{state_number, state_of, role_number, role_of, transforms_values, spis_values, spis_bytes, agreed_bytes, progress_bytes, own_bytes, end_bytes, transforms_of, spis_in, agreed_of, progress_of, own_in, end_of};

@@ -1,4 +1,6 @@
 // What other languages call to ask whether a gateway's reply is lawful, and what differs first.
+#![tactic(auto)]
+
 ghost use Rattle.std.specs.Prelude.{◌≡◌};
 ghost use Rattle.exports_words.specs.Given.{words, given};
 ghost use Rattle.policy_lawful.specs.Lawful.{reply_lawful, lawful_answer, first_difference, difference_values, difference_answer};
@@ -6,8 +8,7 @@ ghost use Rattle.policy_lawful.specs.Lawful.{reply_lawful, lawful_answer, first_
 use policy_lawful::{Difference, Lawfulness, first_difference, reply_lawful};
 
 // Whether a reply is lawful beside the offer that it answers and, where there is one, a book: 0, or the refusal.
-#[unsafe(no_mangle)]
-pub extern "C" fn tallowbrim_lawful(offer: &[u8], reply: &[u8], booked: bool, book: &[u8]) -> u32
+pub fn tallowbrim_lawful(offer: &[u8], reply: &[u8], booked: bool, book: &[u8]) -> u32
     ensures { result ≡ (lawful_answer (reply_lawful booked book.now offer.now reply.now)).number }
 {
     let said = reply_lawful(booked, book, offer, reply);
@@ -67,8 +68,7 @@ fn difference_words(difference: Difference) -> [u64; 5]
 }
 
 // What differs first of a reply, by the same offer and book.
-#[unsafe(no_mangle)]
-pub extern "C" fn tallowbrim_difference(
+pub fn tallowbrim_difference(
     offer: &[u8],
     reply: &[u8],
     booked: bool,

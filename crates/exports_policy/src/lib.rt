@@ -1,4 +1,6 @@
 // What other languages call to choose by a policy book: the book, the choice, the reply.
+#![tactic(auto)]
+
 ghost use Rattle.std.specs.Prelude.{◌≡◌};
 ghost use Rattle.exports_words.specs.Given.{given};
 ghost use Rattle.policy_book.specs.Book.{book_read, book_answer};
@@ -13,8 +15,7 @@ use policy_choice::{Choice, Transforms};
 use policy_reply::{Outcome, reply};
 
 // Reads a book: how many main lines it has, and how many quick lines.
-#[unsafe(no_mangle)]
-pub extern "C" fn tallowbrim_book(book: &[u8], out: &mut [u64; 2]) -> u32
+pub fn tallowbrim_book(book: &[u8], out: &mut [u64; 2]) -> u32
     ensures { given 2 (book_answer (book_read book.now)) out.old ≡ (result, out.new) }
 {
     let answer = read_book(book);
@@ -28,8 +29,7 @@ pub extern "C" fn tallowbrim_book(book: &[u8], out: &mut [u64; 2]) -> u32
 }
 
 // What a book chooses of a message: the set, the line, how many transforms, the first, the second.
-#[unsafe(no_mangle)]
-pub extern "C" fn tallowbrim_choose(book: &[u8], m: &[u8], out: &mut [u64; 5]) -> u32
+pub fn tallowbrim_choose(book: &[u8], m: &[u8], out: &mut [u64; 5]) -> u32
     ensures { given 5 (chosen_answer (choice book.now m.now)) out.old ≡ (result, out.new) }
 {
     let answer = choose(book, m);
@@ -50,8 +50,7 @@ pub extern "C" fn tallowbrim_choose(book: &[u8], m: &[u8], out: &mut [u64; 5]) -
 }
 
 // Chooses, and writes the reply at the buffer's start: how many bytes it has.
-#[unsafe(no_mangle)]
-pub extern "C" fn tallowbrim_reply(
+pub fn tallowbrim_reply(
     book: &[u8],
     m: &[u8],
     ah: u32,

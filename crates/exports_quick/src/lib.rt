@@ -1,4 +1,6 @@
 // What other languages call for quick mode: steps of a lent end, and what it holds.
+#![tactic(auto)]
+
 ghost use Rattle.std.specs.Prelude.{◌≡◌};
 ghost use Rattle.quick_end.specs.Fresh.{fresh};
 ghost use Rattle.quick_shape.specs.Shapes.{nonce};
@@ -30,8 +32,7 @@ fn role_by(initiator: bool) -> Role
 }
 
 // An end starts anew in the lent bytes.
-#[unsafe(no_mangle)]
-pub extern "C" fn tallowbrim_fresh(
+pub fn tallowbrim_fresh(
     end: &mut [u8; 398],
     initiator: bool,
     icookie: u64,
@@ -76,8 +77,7 @@ fn finish(end: &mut [u8; 398], step: Stepped, out: &mut [u64; 2]) -> u32
 }
 
 // The initiator begins.
-#[unsafe(no_mangle)]
-pub extern "C" fn tallowbrim_begin(
+pub fn tallowbrim_begin(
     end: &mut [u8; 398],
     id: u32,
     first: &[u8],
@@ -104,8 +104,7 @@ pub extern "C" fn tallowbrim_begin(
 }
 
 // A message arrives.
-#[unsafe(no_mangle)]
-pub extern "C" fn tallowbrim_deliver(
+pub fn tallowbrim_deliver(
     end: &mut [u8; 398],
     holds: bool,
     m: &[u8],
@@ -131,8 +130,7 @@ pub extern "C" fn tallowbrim_deliver(
 }
 
 // Time has passed without an answer.
-#[unsafe(no_mangle)]
-pub extern "C" fn tallowbrim_tick(
+pub fn tallowbrim_tick(
     end: &mut [u8; 398],
     sent: &[u8],
     got: &[u8],
@@ -156,8 +154,7 @@ pub extern "C" fn tallowbrim_tick(
 }
 
 // Where an end stands.
-#[unsafe(no_mangle)]
-pub extern "C" fn tallowbrim_state(end: &[u8; 398], out: &mut [u64; 4]) -> u32
+pub fn tallowbrim_state(end: &[u8; 398], out: &mut [u64; 4]) -> u32
     ensures { given 4 (state_answer (progress_of end.now)) out.old ≡ (result, out.new) }
 {
     let progress = progress_of(end);
@@ -172,8 +169,7 @@ pub extern "C" fn tallowbrim_state(end: &[u8; 398], out: &mut [u64; 4]) -> u32
 }
 
 // What the ends agreed on.
-#[unsafe(no_mangle)]
-pub extern "C" fn tallowbrim_agreed(end: &[u8; 398], out: &mut [u64; 10]) -> u32
+pub fn tallowbrim_agreed(end: &[u8; 398], out: &mut [u64; 10]) -> u32
     ensures { given 10 (agreed_answer (progress_of end.now)) out.old ≡ (result, out.new) }
 {
     let progress = progress_of(end);
@@ -204,8 +200,7 @@ pub extern "C" fn tallowbrim_agreed(end: &[u8; 398], out: &mut [u64; 10]) -> u32
 }
 
 // The nonce of the initiator's or of the responder's message.
-#[unsafe(no_mangle)]
-pub extern "C" fn tallowbrim_nonce<'a>(
+pub fn tallowbrim_nonce<'a>(
     initiator: bool,
     initiators: &'a [u8],
     responders: &'a [u8],

@@ -1,4 +1,6 @@
 // What other languages call to read: datagrams, messages, payloads, identities and DER.
+#![tactic(auto)]
+
 ghost use Rattle.std.specs.Prelude.{◌≡◌};
 ghost use Rattle.der.specs.Der.{is_element, is_name};
 ghost use Rattle.exports_words.specs.Given.{given};
@@ -14,8 +16,7 @@ use message_chain::{Message, payload_at};
 use port4500::Datagram;
 
 // What a datagram is: 1 a keepalive; 2 a key exchange, with start and length of its message; 3 an ESP packet, with its length.
-#[unsafe(no_mangle)]
-pub extern "C" fn tallowbrim_datagram(s: &[u8], out: &mut [u64; 3]) -> u32
+pub fn tallowbrim_datagram(s: &[u8], out: &mut [u64; 3]) -> u32
     ensures { given 3 (datagram_answer (datagram s.now)) out.old ≡ (result, out.new) }
 {
     let answer = port4500::read(s);
@@ -37,8 +38,7 @@ pub extern "C" fn tallowbrim_datagram(s: &[u8], out: &mut [u64; 3]) -> u32
 }
 
 // Reads a message: its exchange, and how many payloads it has.
-#[unsafe(no_mangle)]
-pub extern "C" fn tallowbrim_message(m: &[u8], out: &mut [u64; 2]) -> u32
+pub fn tallowbrim_message(m: &[u8], out: &mut [u64; 2]) -> u32
     ensures { given 2 (message_answer (message m.now)) out.old ≡ (result, out.new) }
 {
     let answer = message_chain::read(m);
@@ -52,8 +52,7 @@ pub extern "C" fn tallowbrim_message(m: &[u8], out: &mut [u64; 2]) -> u32
 }
 
 // A payload of a message, counted from 0: its type, where it begins, how many bytes it has.
-#[unsafe(no_mangle)]
-pub extern "C" fn tallowbrim_payload(m: &[u8], place: u8, out: &mut [u64; 3]) -> u32
+pub fn tallowbrim_payload(m: &[u8], place: u8, out: &mut [u64; 3]) -> u32
     ensures { given 3 (payload_answer place m.now) out.old ≡ (result, out.new) }
 {
     let answer = message_chain::read(m);
@@ -71,8 +70,7 @@ pub extern "C" fn tallowbrim_payload(m: &[u8], place: u8, out: &mut [u64; 3]) ->
 }
 
 // Whether the body of an identification payload is lawful in an exchange: 0, or 18.
-#[unsafe(no_mangle)]
-pub extern "C" fn tallowbrim_identity(exchange: u8, s: &[u8]) -> u32
+pub fn tallowbrim_identity(exchange: u8, s: &[u8]) -> u32
     ensures { result ≡ identity_code exchange s.now }
 {
     identity_code(exchange, s) as u32
@@ -85,16 +83,14 @@ fn lawful_code(lawful: bool) -> u32
 }
 
 // Whether bytes are one name: 0, or 18.
-#[unsafe(no_mangle)]
-pub extern "C" fn tallowbrim_name(s: &[u8]) -> u32
+pub fn tallowbrim_name(s: &[u8]) -> u32
     ensures { result ≡ lawful_code (is_name s.now) }
 {
     lawful_code(is_name(s))
 }
 
 // Whether bytes are one DER element: 0, or 18.
-#[unsafe(no_mangle)]
-pub extern "C" fn tallowbrim_element(s: &[u8]) -> u32
+pub fn tallowbrim_element(s: &[u8]) -> u32
     ensures { result ≡ lawful_code (is_element s.now) }
 {
     lawful_code(is_element(s))

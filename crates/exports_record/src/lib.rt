@@ -1,4 +1,6 @@
 // What other languages call to list a record of a capture, its packets judged by a table that they lend.
+#![tactic(auto)]
+
 ghost use Rattle.std.specs.Prelude.{◌≡◌, [], ◌∷◌};
 ghost use Rattle.exports_words.specs.Given.{words};
 ghost use Rattle.capture_frame.specs.Frame.{address_values};
@@ -110,13 +112,7 @@ fn listed_words(listed: Listed) -> [u64; 8]
 }
 
 // A record into a table: what is listed of it.
-#[unsafe(no_mangle)]
-pub extern "C" fn tallowbrim_record(
-    table: &mut Table,
-    original: u32,
-    s: &[u8],
-    out: &mut [u64; 8],
-) -> u32
+pub fn tallowbrim_record(table: &mut Table, original: u32, s: &[u8], out: &mut [u64; 8]) -> u32
     ensures { listed_given (listed table.old original s.now) out.old ≡ ((result, out.new), table.new) }
 {
     *out = listed_words(list_record(table, original, s));

@@ -1,5 +1,7 @@
 // What other languages call for sequence numbers: a receive record in two words that they lend, the plain list, and the table of SA
 // entries.
+#![tactic(auto)]
+
 ghost use Rattle.std.specs.Prelude.{◌≡◌};
 ghost use Rattle.exports_words.specs.Given.{given};
 ghost use Rattle.sequence_record.specs.Receive.{judged, loss_line, verdict_answer};
@@ -60,8 +62,7 @@ fn line_words(line: LossLine) -> [u64; 3]
 }
 
 // A packet's number arrives at a lent record; `out` is for the rise.
-#[unsafe(no_mangle)]
-pub extern "C" fn tallowbrim_step(
+pub fn tallowbrim_step(
     receive: &mut [u64; 2],
     number: u32,
     integrity: bool,
@@ -77,8 +78,7 @@ pub extern "C" fn tallowbrim_step(
 }
 
 // The loss line of a lent record.
-#[unsafe(no_mangle)]
-pub extern "C" fn tallowbrim_loss_line(receive: &[u64; 2], out: &mut [u64; 3]) -> u32
+pub fn tallowbrim_loss_line(receive: &[u64; 2], out: &mut [u64; 3]) -> u32
     ensures { given 3 (counted_answer (Line (loss_line (receive_of receive.now)))) out.old ≡ (result, out.new) }
 {
     let line = loss_line(receive_of(receive));
@@ -87,8 +87,7 @@ pub extern "C" fn tallowbrim_loss_line(receive: &[u64; 2], out: &mut [u64; 3]) -
 }
 
 // A packet's number arrives at a plain list; `out` is for the rise.
-#[unsafe(no_mangle)]
-pub extern "C" fn tallowbrim_plain_step(
+pub fn tallowbrim_plain_step(
     list: &mut PlainList,
     number: u32,
     integrity: bool,
@@ -101,8 +100,7 @@ pub extern "C" fn tallowbrim_plain_step(
 }
 
 // The loss line of a plain list.
-#[unsafe(no_mangle)]
-pub extern "C" fn tallowbrim_plain_loss_line(list: &PlainList, out: &mut [u64; 3]) -> u32
+pub fn tallowbrim_plain_loss_line(list: &PlainList, out: &mut [u64; 3]) -> u32
     ensures { given 3 (counted_answer (Line (plain_loss list.now))) out.old ≡ (result, out.new) }
 {
     let line = sequence_plain::loss_line(list);
@@ -111,8 +109,7 @@ pub extern "C" fn tallowbrim_plain_loss_line(list: &PlainList, out: &mut [u64; 3
 }
 
 // A life begins.
-#[unsafe(no_mangle)]
-pub extern "C" fn tallowbrim_add(table: &mut Table, destination: u32, protocol: u8, spi: u32) -> u32
+pub fn tallowbrim_add(table: &mut Table, destination: u32, protocol: u8, spi: u32) -> u32
     ensures { outcome_given (added table.old (key_of destination protocol spi)) ≡ (result, table.new) }
 {
     let outcome = table::add(table, key_of(destination, protocol, spi));
@@ -120,8 +117,7 @@ pub extern "C" fn tallowbrim_add(table: &mut Table, destination: u32, protocol: 
 }
 
 // A life ends.
-#[unsafe(no_mangle)]
-pub extern "C" fn tallowbrim_remove(
+pub fn tallowbrim_remove(
     table: &mut Table,
     destination: u32,
     protocol: u8,
@@ -134,8 +130,7 @@ pub extern "C" fn tallowbrim_remove(
 }
 
 // A packet to a destination; integrity is what the caller says of it, and `out` is for the rise.
-#[unsafe(no_mangle)]
-pub extern "C" fn tallowbrim_packet(
+pub fn tallowbrim_packet(
     table: &mut Table,
     destination: u32,
     protocol: u8,
@@ -150,8 +145,7 @@ pub extern "C" fn tallowbrim_packet(
 }
 
 // The next number for a packet that is sent.
-#[unsafe(no_mangle)]
-pub extern "C" fn tallowbrim_send(
+pub fn tallowbrim_send(
     table: &mut Table,
     destination: u32,
     protocol: u8,
@@ -171,8 +165,7 @@ pub extern "C" fn tallowbrim_send(
 }
 
 // The loss line of a life.
-#[unsafe(no_mangle)]
-pub extern "C" fn tallowbrim_loss(
+pub fn tallowbrim_loss(
     table: &Table,
     destination: u32,
     protocol: u8,

@@ -1,4 +1,6 @@
 // What other languages call to say why nothing was chosen: the cause at places, and what stands there.
+#![tactic(auto)]
+
 ghost use Rattle.std.specs.Prelude.{◌∷◌, ◌≡◌};
 ghost use Rattle.exports_words.specs.Given.{words, given};
 ghost use Rattle.policy_cause.specs.Causes.{cause_values};
@@ -35,8 +37,7 @@ fn cause_words(cause: Cause) -> [u64; 5]
 }
 
 // Why a transform does not suit a line, by places counted from 0.
-#[unsafe(no_mangle)]
-pub extern "C" fn tallowbrim_cause(
+pub fn tallowbrim_cause(
     book: &[u8],
     m: &[u8],
     set: u8,
@@ -93,8 +94,7 @@ fn place_words(body: &[u8], at: Places) -> [u64; 4]
 }
 
 // What stands at places of a message's offer: the set's number, the proposal's protocol, the transform's number.
-#[unsafe(no_mangle)]
-pub extern "C" fn tallowbrim_place(
+pub fn tallowbrim_place(
     m: &[u8],
     set: u8,
     proposal: u8,

@@ -1,5 +1,5 @@
 // What is said of a reply that is not lawful: what differs first and, with a book, what that chooses.
-use crate::{names, say};
+use crate::names;
 use message_chain::Message;
 use policy_choice::choose::{choose, sa_body};
 use policy_choice::{Choice, Transforms};
@@ -7,57 +7,68 @@ use policy_lawful::{Difference, first_difference};
 use sa_fields::{ProposalNumber, TransformNumber, proposal_number, protocol};
 use sa_items::proposal;
 use sa_sets::{set, set_numbered};
+use std::alloc::AllocError;
 
-pub(crate) fn tell(booked: bool, book: &[u8], offer: &[u8], reply: &[u8]) {
+pub(crate) fn tell(
+    out: &mut String,
+    booked: bool,
+    book: &[u8],
+    offer: &[u8],
+    reply: &[u8],
+) -> Result<(), AllocError> {
     let found = first_difference(booked, book, offer, reply);
     match found {
-        Difference::OfferRefused(_) => unread(b"offer", offer),
-        Difference::BookRefused(_) => say::text(b"book: cannot be read"),
-        Difference::ReplyRefused(_) => unread(b"reply", reply),
+        Difference::OfferRefused(_) => unread(out, "offer", offer),
+        Difference::BookRefused(_) => write!(out, "book: cannot be read"),
+        Difference::ReplyRefused(_) => unread(out, "reply", reply),
         _ => {
-            say::text(b"reply: ");
-            of_set(found, sa_body(offer), set(0, sa_body(reply)));
+            write!(out, "reply: ")?;
+            of_set(out, found, sa_body(offer), set(0, sa_body(reply)))?;
             if booked {
-                chosen(choose(book, offer));
+                chosen(out, choose(book, offer))?;
             }
+            Ok(())
         }
     }
 }
 
 // A message that reads is refused only where it has no SA payload.
-fn unread(name: &[u8], m: &[u8]) {
-    say::text(name);
+fn unread(out: &mut String, name: &str, m: &[u8]) -> Result<(), AllocError> {
     let read = message_chain::read(m);
     match read {
-        Message::Refused(_) => say::text(b": cannot be read"),
+        Message::Refused(_) => write!(out, "{name}: cannot be read"),
         Message::Read {
             exchange: _,
             count: _,
-        } => say::text(b": has no SA payload"),
+        } => write!(out, "{name}: has no SA payload"),
     }
 }
 
 // What differs of the reply's set, beside the body of the offer's SA payload.
-fn of_set(found: Difference, offer: &[u8], s: &[u8]) {
+fn of_set(out: &mut String, found: Difference, offer: &[u8], s: &[u8]) -> Result<(), AllocError> {
     let number = proposal_number(proposal(0, s));
     match found {
-        Difference::SeveralSets(count) => several_sets(count),
-        Difference::SetNotOffered(_) => set_not_offered(number),
-        Difference::Protocols => protocols(number, s, set_numbered(number, offer)),
-        Difference::Order => order(number, s, set_numbered(number, offer)),
+        Difference::SeveralSets(count) => write!(out, "has {count} sets"),
+        Difference::SetNotOffered(_) => set_not_offered(out, number),
+        Difference::Protocols => protocols(out, number, s, set_numbered(number, offer)),
+        Difference::Order => order(out, number, s, set_numbered(number, offer)),
         Difference::SeveralTransforms { protocol, count } => several_transforms(
-            number, protocol, count,
+            out, number, protocol, count,
         ),
-        _ => of_transform(found, number),
+        _ => of_transform(out, found, number),
     }
 }
 
 // What differs of a transform, beside the offered one of its number.
-fn of_transform(found: Difference, in_set: ProposalNumber) {
+fn of_transform(
+    out: &mut String,
+    found: Difference,
+    in_set: ProposalNumber,
+) -> Result<(), AllocError> {
     match found {
         Difference::TransformNotOffered { protocol, number } => {
-            named_transform(in_set, protocol, number);
-            say::text(b" is not offered");
+            named_transform(out, in_set, protocol, number)?;
+            write!(out, " is not offered")
         }
         Difference::Id {
             protocol,
@@ -65,97 +76,111 @@ fn of_transform(found: Difference, in_set: ProposalNumber) {
             found,
             offered,
         } => {
-            named_transform(in_set, protocol, number);
-            say::labelled(b" has ID ", found as u64);
-            say::labelled(b", offered ", offered as u64);
+            named_transform(out, in_set, protocol, number)?;
+            write!(out, " has ID {found}, offered {offered}")
         }
         Difference::Attributes { protocol, number } => {
-            named_transform(in_set, protocol, number);
-            say::text(b" has other attributes than offered");
+            named_transform(out, in_set, protocol, number)?;
+            write!(out, " has other attributes than offered")
         }
-        _ => of_choice(found, in_set),
+        _ => of_choice(out, found, in_set),
     }
 }
 
 // What it takes and the book does not choose: a transform, or the set.
-fn of_choice(found: Difference, in_set: ProposalNumber) {
+fn of_choice(
+    out: &mut String,
+    found: Difference,
+    in_set: ProposalNumber,
+) -> Result<(), AllocError> {
+    write!(out, "takes ")?;
     match found {
         Difference::OtherTransform {
             protocol,
             found,
             chosen: _,
-        } => {
-            say::text(b"takes ");
-            names::transform(protocol, found);
-        }
-        _ => {
-            say::text(b"takes ");
-            names::set(in_set);
-        }
+        } => names::transform(out, protocol, found),
+        _ => names::set(out, in_set),
     }
 }
 
-fn several_sets(count: u8) {
-    say::labelled(b"has ", count as u64);
-    say::text(b" sets");
+fn set_not_offered(out: &mut String, in_set: ProposalNumber) -> Result<(), AllocError> {
+    names::set(out, in_set)?;
+    write!(out, " is not offered")
 }
 
-fn set_not_offered(in_set: ProposalNumber) {
-    names::set(in_set);
-    say::text(b" is not offered");
+fn protocols(
+    out: &mut String,
+    in_set: ProposalNumber,
+    s: &[u8],
+    offered: &[u8],
+) -> Result<(), AllocError> {
+    let found = names::protocols_of(s);
+    let wanted = names::protocols_of(offered);
+    has(out, in_set, found, wanted)
 }
 
-fn protocols(in_set: ProposalNumber, s: &[u8], offered: &[u8]) {
-    names::set(in_set);
-    say::text(b" has ");
-    names::protocols_of(s);
-    say::text(b", offered ");
-    names::protocols_of(offered);
+fn order(
+    out: &mut String,
+    in_set: ProposalNumber,
+    s: &[u8],
+    offered: &[u8],
+) -> Result<(), AllocError> {
+    let found = names::order(protocol(proposal(0, s)));
+    let wanted = names::order(protocol(proposal(0, offered)));
+    has(out, in_set, found, wanted)
 }
 
-fn order(in_set: ProposalNumber, s: &[u8], offered: &[u8]) {
-    names::set(in_set);
-    say::text(b" has ");
-    names::order(protocol(proposal(0, s)));
-    say::text(b", offered ");
-    names::order(protocol(proposal(0, offered)));
+fn has(
+    out: &mut String,
+    in_set: ProposalNumber,
+    found: &str,
+    offered: &str,
+) -> Result<(), AllocError> {
+    names::set(out, in_set)?;
+    write!(out, " has {found}, offered {offered}")
 }
 
-fn several_transforms(in_set: ProposalNumber, protocol: u8, count: u8) {
-    names::set(in_set);
+fn several_transforms(
+    out: &mut String,
+    in_set: ProposalNumber,
+    protocol: u8,
+    count: u8,
+) -> Result<(), AllocError> {
+    names::set(out, in_set)?;
     if !names::is_main(protocol) {
-        say::text(b": ");
-        names::protocol(protocol);
+        write!(out, ": {}", names::protocol(protocol))?;
     }
-    say::labelled(b" has ", count as u64);
-    say::text(b" transforms");
+    write!(out, " has {count} transforms")
 }
 
-fn named_transform(in_set: ProposalNumber, protocol: u8, number: TransformNumber) {
-    names::set(in_set);
-    say::text(b": ");
-    names::transform(protocol, number);
+fn named_transform(
+    out: &mut String,
+    in_set: ProposalNumber,
+    protocol: u8,
+    number: TransformNumber,
+) -> Result<(), AllocError> {
+    names::set(out, in_set)?;
+    write!(out, ": ")?;
+    names::transform(out, protocol, number)
 }
 
 // The offer reads and the book is lawful, so that a refused choice is one of nothing.
-fn chosen(choice: Choice) {
-    say::text(b"; the book chooses ");
+fn chosen(out: &mut String, choice: Choice) -> Result<(), AllocError> {
+    write!(out, "; the book chooses ")?;
     match choice {
-        Choice::Refused(_) => say::text(b"nothing"),
+        Choice::Refused(_) => write!(out, "nothing"),
         Choice::Chosen(number, line, transforms) => {
-            names::set(number);
-            say::labelled(b" line ", line.0 as u64);
-            numbers(transforms);
+            names::set(out, number)?;
+            write!(out, " line {}", line.0)?;
+            numbers(out, transforms)
         }
     }
 }
 
-fn numbers(transforms: Transforms) {
+fn numbers(out: &mut String, transforms: Transforms) -> Result<(), AllocError> {
     match transforms {
-        Transforms::One(t) => say::labelled(b" transforms ", t.0 as u64),
-        Transforms::Two(t, u) => {
-            say::labelled(b" transforms ", t.0 as u64);
-            say::labelled(b" ", u.0 as u64);
-        }
+        Transforms::One(t) => write!(out, " transforms {}", t.0),
+        Transforms::Two(t, u) => write!(out, " transforms {} {}", t.0, u.0),
     }
 }

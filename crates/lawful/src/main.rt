@@ -1,43 +1,60 @@
 // Reads an offer, a reply to it and, where there is one, a policy book from standard input, and prints whether the reply is lawful;
 // where it is not, the number of the refusal and, in words, what differs first.
+#![tactic(auto)]
+
 mod difference;
 mod names;
-mod say;
 
 use bench_words::number::{Number, decimal};
-use libc::STDIN_FILENO;
 use policy_lawful::{Lawfulness, reply_lawful};
+use std::alloc::AllocError;
+use std::env::FillError;
+use std::io;
+use std::io::{Read, Write};
+use std::rt::Env;
 use wire_read::{after, front};
 
 // For each of the two messages, and for the book, a byte more than the longest, so that what is too long is seen to be.
-const LONGEST: usize = 16469;
+const LONGEST: u64 = 16469;
 
-fn main() {
-    let mut input = [0u8; LONGEST];
-    let n = io::read_full(STDIN_FILENO, &mut input);
-    apart(&input[..n]);
+// How many bytes are the offer, the reply and, where there is one, the book.
+#[derive(Clone, Copy)]
+struct Sizes {
+    offer: usize,
+    reply: usize,
+    book: usize,
+    booked: bool,
 }
 
-// The arguments say how many bytes are the offer, the reply and, with a third, the book.
-fn apart(s: &[u8]) {
-    let offer_size = size_given(1);
-    let reply_size = size_given(2);
-    let book_size = size_given(3);
-    let booked = 3 < os::arg_count();
-    let behind = after(s, offer_size);
-    let book = front(after(behind, reply_size), book_size);
-    judge(
-        booked,
-        book,
-        front(s, offer_size),
-        front(behind, reply_size),
-    );
+fn main(rt: HostRuntime) -> io::Result<()> {
+    let mut input = Vec::new(rt.alloc());
+    rt.stdin().take(LONGEST).read_to_end(&mut input)?;
+    let mut out = String::new(rt.alloc());
+    apart(&mut out, &input, sizes_given(&rt))?;
+    rt.stdout().write_all(out.as_bytes())
+}
+
+// The arguments say it. A third stands for a book, whatever it is.
+fn sizes_given(rt: &impl Env) -> Sizes {
+    Sizes {
+        offer: size_given(rt, 1),
+        reply: size_given(rt, 2),
+        book: size_given(rt, 3),
+        booked: is_given(rt, 3),
+    }
+}
+
+fn is_given(rt: &impl Env, place: usize) -> bool {
+    match rt.arg(place, &mut [0u8; 10]) {
+        Err(FillError::NotPresent) => false,
+        _ => true,
+    }
 }
 
 // An argument that is missing, no number in decimal or none of 32 bits leaves no bytes.
-fn size_given(place: usize) -> usize {
+fn size_given(rt: &impl Env, place: usize) -> usize {
     let mut word = [0u8; 10];
-    let length = os::arg(place, &mut word);
+    let length = rt.arg(place, &mut word).unwrap_or(0);
     let size = decimal(front(&word, length), u32::MAX);
     match size {
         Number::Is(n) => n as usize,
@@ -45,14 +62,32 @@ fn size_given(place: usize) -> usize {
     }
 }
 
-fn judge(booked: bool, book: &[u8], offer: &[u8], reply: &[u8]) {
+fn apart(out: &mut String, s: &[u8], sizes: Sizes) -> Result<(), AllocError> {
+    let behind = after(s, sizes.offer);
+    let book = front(after(behind, sizes.reply), sizes.book);
+    judge(
+        out,
+        sizes.booked,
+        book,
+        front(s, sizes.offer),
+        front(behind, sizes.reply),
+    )
+}
+
+fn judge(
+    out: &mut String,
+    booked: bool,
+    book: &[u8],
+    offer: &[u8],
+    reply: &[u8],
+) -> Result<(), AllocError> {
     let said = reply_lawful(booked, book, offer, reply);
     match said {
-        Lawfulness::Lawful => say::text(b"lawful\n"),
+        Lawfulness::Lawful => writeln!(out, "lawful"),
         Lawfulness::Refused(number) => {
-            say::refused(number);
-            difference::tell(booked, book, offer, reply);
-            say::end_line();
+            writeln!(out, "refused {number}")?;
+            difference::tell(out, booked, book, offer, reply)?;
+            out.push('\n')
         }
     }
 }

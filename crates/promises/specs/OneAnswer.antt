@@ -3,7 +3,7 @@
 use Rattle.std.specs.Prelude.{ℕ, ◌≡◌, List}
 use contract.Lifetimes.{Lfts}
 use denote.Triple.Clauses.{AtExit}
-use Rattle.std.specs.Borrow.{Bor}
+use Rattle.std.specs.Borrow.{Bor, MutBor}
 use borrow.Fn.Kinds.{ParamKind, ResultKind, Out, Dens, res_t, ended_of}
 
 -- two answers to one call agree in what is seen of them
@@ -21,13 +21,13 @@ result κs x s = x
 abbrev pub part : {Lifetimes Bytes Exits : Type 0} → Lifetimes → Bor Bytes → Exits → Bytes
 part κs x s = x.now
 
-abbrev pub buffer : {Lifetimes Result Bytes Exits : Type 0} → Lifetimes → Result → Bor Bytes × Exits → Bytes
+abbrev pub buffer : {Lifetimes Result Bytes Exits : Type 0} → Lifetimes → Result → MutBor Bytes × Exits → Bytes
 buffer κs x s = s.0.now
 
-abbrev pub result_and_buffer : {Lifetimes Result Bytes Exits : Type 0} → Lifetimes → Result → Bor Bytes × Exits → Result × Bytes
+abbrev pub result_and_buffer : {Lifetimes Result Bytes Exits : Type 0} → Lifetimes → Result → MutBor Bytes × Exits → Result × Bytes
 result_and_buffer κs x s = (x, s.0.now)
 
 abbrev pub result_and_fifth :
     {Lifetimes Result First Second Third Fourth Bytes Exits : Type 0} →
-    Lifetimes → Result → First × (Second × (Third × (Fourth × (Bor Bytes × Exits)))) → Result × Bytes
+    Lifetimes → Result → First × (Second × (Third × (Fourth × (MutBor Bytes × Exits)))) → Result × Bytes
 result_and_fifth κs x s = (x, s.1.1.1.1.0.now)

@@ -14,8 +14,8 @@ use Rattle.bench_words.proofs.integrity.read.Kinds as read-kinds
 use Rattle.bench_words.proofs.integrity.read.Reads as read-reads
 use Rattle.bench_words.proofs.number.decimal.Kinds as decimal-kinds
 use Rattle.bench_words.proofs.number.decimal.Reads as decimal-reads
-use Rattle.bench_words.proofs.number.four_bytes_lem.Kinds as four-bytes-kinds
-use Rattle.bench_words.proofs.number.four_bytes_lem.Reads as four-bytes-reads
+use Rattle.bench_words.proofs.number.four_bytes.Kinds as four-bytes-kinds
+use Rattle.bench_words.proofs.number.four_bytes.Reads as four-bytes-reads
 use Rattle.bench_words.proofs.number.eight_bytes.Kinds as eight-bytes-kinds
 use Rattle.bench_words.proofs.number.eight_bytes.Reads as eight-bytes-reads
 use Rattle.bench_words.proofs.say.append.Kinds as append-kinds

@@ -1,91 +1,77 @@
 // Reads a policy book and then a message from standard input, and prints what the message is and what the policy chooses.
-use libc::{STDIN_FILENO, STDOUT_FILENO};
+#![tactic(auto)]
+
 use message_chain::{Message, Payload};
 use policy_choice::{Choice, Transforms};
+use std::alloc::AllocError;
+use std::io;
+use std::io::{Read, Write};
 use wire_read::{after, front};
 
 // A byte more than the longest book and the longest message, so that a message that is too long is seen to be.
-const LONGEST: usize = 8275;
+const LONGEST: u64 = 8275;
 
-fn main() {
-    let mut input = [0u8; LONGEST];
-    let n = io::read_full(STDIN_FILENO, &mut input);
-    verdict(&input[..n]);
+fn main(rt: HostRuntime) -> io::Result<()> {
+    let mut input = Vec::new(rt.alloc());
+    rt.stdin().take(LONGEST).read_to_end(&mut input)?;
+    let mut out = String::new(rt.alloc());
+    verdict(&input, &mut out)?;
+    rt.stdout().write_all(out.as_bytes())
 }
 
-fn verdict(s: &[u8]) {
+fn verdict(s: &[u8], out: &mut String) -> Result<(), AllocError> {
     if !policy_book::book_in_front(s) {
-        refused(8193);
-        return;
+        return refused(out, 8193);
     }
     let size = policy_lines::book_size(s) as usize;
     let book = front(s, size);
     let m = after(s, size);
     let read = message_chain::read(m);
     match read {
-        Message::Refused(number) => refused(number),
+        Message::Refused(number) => refused(out, number),
         Message::Read { exchange, count } => {
-            labelled(b"exchange ", exchange as u64);
-            labelled(b" payloads ", count as u64);
-            end_line();
-            payloads(m, count);
-            choice(policy_choice::choose::choose(book, m));
+            writeln!(out, "exchange {exchange} payloads {count}")?;
+            payloads(out, m, count)?;
+            choice(out, policy_choice::choose::choose(book, m))
         }
     }
 }
 
-fn payloads(m: &[u8], count: u8) {
-    let mut k = 0;
-    while k < count {
-        payload(message_chain::payload_at(m, k));
-        k += 1;
+fn payloads(out: &mut String, m: &[u8], count: u8) -> Result<(), AllocError> {
+    for k in 0..count {
+        payload(out, message_chain::payload_at(m, k))?;
     }
+    Ok(())
 }
 
-fn payload(p: Payload) {
-    labelled(b"payload ", p.payloadtype as u64);
-    labelled(b" at ", p.start as u64);
-    labelled(b" length ", p.length as u64);
-    end_line();
+fn payload(out: &mut String, p: Payload) -> Result<(), AllocError> {
+    writeln!(
+        out,
+        "payload {} at {} length {}",
+        p.payloadtype, p.start, p.length
+    )
 }
 
 // The message reads, so that 16 says that it has no SA payload: then nothing is chosen, and nothing said.
-fn choice(c: Choice) {
+fn choice(out: &mut String, c: Choice) -> Result<(), AllocError> {
     match c {
-        Choice::Refused(number) => {
-            if number != 16 {
-                refused(number);
-            }
-        }
+        Choice::Refused(16) => Ok(()),
+        Choice::Refused(number) => refused(out, number),
         Choice::Chosen(set, line, transforms) => {
-            labelled(b"chosen set ", set.0 as u64);
-            labelled(b" line ", line.0 as u64);
-            numbers(transforms);
-            end_line();
+            write!(out, "chosen set {} line {}", set.0, line.0)?;
+            numbers(out, transforms)?;
+            out.push('\n')
         }
     }
 }
 
-fn numbers(transforms: Transforms) {
+fn numbers(out: &mut String, transforms: Transforms) -> Result<(), AllocError> {
     match transforms {
-        Transforms::One(t) => labelled(b" transforms ", t.0 as u64),
-        Transforms::Two(t, u) => {
-            labelled(b" transforms ", t.0 as u64);
-            labelled(b" ", u.0 as u64);
-        }
+        Transforms::One(t) => write!(out, " transforms {}", t.0),
+        Transforms::Two(t, u) => write!(out, " transforms {} {}", t.0, u.0),
     }
 }
 
-fn refused(number: u16) {
-    labelled(b"refused ", number as u64);
-    end_line();
-}
-
-fn labelled(text: &[u8], n: u64) {
-    io::write_all(STDOUT_FILENO, text);
-    io::print_decimal(STDOUT_FILENO, n);
-}
-
-fn end_line() {
-    io::write_all(STDOUT_FILENO, b"\n");
+fn refused(out: &mut String, number: u16) -> Result<(), AllocError> {
+    writeln!(out, "refused {number}")
 }

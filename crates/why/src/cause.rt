@@ -1,36 +1,36 @@
 // What is said of a transform behind its number: that it would do, or why it does not.
-use crate::{names, say};
+use crate::names;
 use policy_cause::Cause;
+use std::alloc::AllocError;
 
-pub(crate) fn cause(exchange: u8, protocol: u8, cause: Cause) {
+pub(crate) fn cause(
+    out: &mut String,
+    exchange: u8,
+    protocol: u8,
+    cause: Cause,
+) -> Result<(), AllocError> {
     match cause {
-        Cause::Suits => would_do(protocol),
-        Cause::Id { found, wanted } => id(found, wanted),
-        Cause::Missing(attributetype) => missing(exchange, attributetype),
+        Cause::Suits => would_do(out, protocol),
+        Cause::Id { found, wanted } => write!(out, ": ID {found}, wanted {wanted}"),
+        Cause::Missing(attributetype) => missing(out, exchange, attributetype),
         Cause::Value {
             attributetype,
             found,
             wanted,
-        } => value(exchange, attributetype, found, wanted),
+        } => value(out, exchange, attributetype, found, wanted),
         Cause::Surplus {
             attributetype,
             found,
-        } => surplus(exchange, attributetype, found),
-        Cause::Seconds { found, longest } => seconds(found, longest),
-        Cause::Kilobytes => say::text(b": lifetime of 0 kilobytes, at least 1"),
+        } => surplus(out, exchange, attributetype, found),
+        Cause::Seconds { found, longest } => seconds(out, found, longest),
+        Cause::Kilobytes => write!(out, ": lifetime of 0 kilobytes, at least 1"),
     }
 }
 
 // A set that fails though one of its transforms would do is of AH with ESP, and fails by the other protocol.
-fn would_do(protocol: u8) {
-    say::text(b" would do, but none of ");
-    names::protocol(if protocol == 2 { 3 } else { 2 });
-    say::text(b" does");
-}
-
-fn id(found: u8, wanted: u8) {
-    say::labelled(b": ID ", found as u64);
-    say::labelled(b", wanted ", wanted as u64);
+fn would_do(out: &mut String, protocol: u8) -> Result<(), AllocError> {
+    let other = names::protocol(if protocol == 2 { 3 } else { 2 });
+    write!(out, " would do, but none of {other} does")
 }
 
 fn is_life_type(exchange: u8, attributetype: u16) -> bool {
@@ -41,56 +41,63 @@ fn is_life_type(exchange: u8, attributetype: u16) -> bool {
     }
 }
 
-fn attribute(exchange: u8, attributetype: u16) {
-    say::labelled(b": attribute ", attributetype as u64);
-    say::text(b" (");
-    if exchange == 2 {
-        names::main_attribute(attributetype);
+fn attribute(out: &mut String, exchange: u8, attributetype: u16) -> Result<(), AllocError> {
+    let name = if exchange == 2 {
+        names::main_attribute(attributetype)
     } else {
-        names::quick_attribute(attributetype);
-    }
-    say::text(b")");
+        names::quick_attribute(attributetype)
+    };
+    write!(out, ": attribute {attributetype} ({name})")
 }
 
-fn missing(exchange: u8, attributetype: u16) {
+fn missing(out: &mut String, exchange: u8, attributetype: u16) -> Result<(), AllocError> {
     if is_life_type(exchange, attributetype) {
-        say::text(b": no lifetime in seconds");
-    } else {
-        attribute(exchange, attributetype);
-        say::text(b" is missing");
+        return write!(out, ": no lifetime in seconds");
     }
+    attribute(out, exchange, attributetype)?;
+    write!(out, " is missing")
 }
 
-fn value(exchange: u8, attributetype: u16, found: u32, wanted: u32) {
-    attribute(exchange, attributetype);
-    say::labelled(b" is ", found as u64);
-    mode_behind(attributetype, found);
-    say::labelled(b", wanted ", wanted as u64);
-    mode_behind(attributetype, wanted);
+fn value(
+    out: &mut String,
+    exchange: u8,
+    attributetype: u16,
+    found: u32,
+    wanted: u32,
+) -> Result<(), AllocError> {
+    attribute(out, exchange, attributetype)?;
+    write!(out, " is {found}")?;
+    mode_behind(out, attributetype, found)?;
+    write!(out, ", wanted {wanted}")?;
+    mode_behind(out, attributetype, wanted)
 }
 
 // Behind the value of attribute 4, which only quick mode wants, the mode's name where it has one.
-fn mode_behind(attributetype: u16, value: u32) {
+fn mode_behind(out: &mut String, attributetype: u16, value: u32) -> Result<(), AllocError> {
     if (attributetype == 4) & (1 <= value) & (value <= 4) {
-        say::text(b" (");
-        names::mode(value);
-        say::text(b")");
-    }
-}
-
-fn surplus(exchange: u8, attributetype: u16, found: u32) {
-    attribute(exchange, attributetype);
-    if is_life_type(exchange, attributetype) {
-        say::labelled(b" of ", found as u64);
-    }
-    say::text(b" is not wanted");
-}
-
-fn seconds(found: u32, longest: u32) {
-    say::labelled(b": lifetime of ", found as u64);
-    if found == 0 {
-        say::text(b" seconds, at least 1");
+        write!(out, " ({})", names::mode(value))
     } else {
-        say::labelled(b" seconds, at most ", longest as u64);
+        Ok(())
+    }
+}
+
+fn surplus(
+    out: &mut String,
+    exchange: u8,
+    attributetype: u16,
+    found: u32,
+) -> Result<(), AllocError> {
+    attribute(out, exchange, attributetype)?;
+    if is_life_type(exchange, attributetype) {
+        write!(out, " of {found}")?;
+    }
+    write!(out, " is not wanted")
+}
+
+fn seconds(out: &mut String, found: u32, longest: u32) -> Result<(), AllocError> {
+    if found == 0 {
+        write!(out, ": lifetime of {found} seconds, at least 1")
+    } else {
+        write!(out, ": lifetime of {found} seconds, at most {longest}")
     }
 }

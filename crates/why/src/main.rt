@@ -1,11 +1,11 @@
 // Reads a policy book and then a message from standard input, and prints of every set that the message offers and every line that
 // the book has for its exchange whether the set suits the line, or at what it fails.
+#![tactic(auto)]
+
 mod cause;
 mod names;
-mod say;
 
 use bench_words::number::{Number, decimal};
-use libc::STDIN_FILENO;
 use policy_cause::{PairCause, pair_cause, transform_cause};
 use policy_choice::choose::{line_count, sa_of};
 use policy_lines::{LineNumber, main_seconds, place, quick_mode, quick_protocols, quick_seconds};
@@ -13,37 +13,62 @@ use policy_why::Offer;
 use sa_fields::{proposal_number, protocol, transform_count, transform_number};
 use sa_items::{proposal, proposal_count};
 use sa_sets::set_count;
+use std::alloc::AllocError;
+use std::env::FillError;
+use std::io;
+use std::io::{Read, Write};
+use std::rt::Env;
 use wire_read::{after, front};
 
 // A byte more than the longest book and the longest message, so that a message that is too long is seen to be.
-const LONGEST: usize = 8275;
+const LONGEST: u64 = 8275;
 
 // Where the book ends and the message begins.
-#[derive(Drop)]
+#[derive(Clone, Copy)]
 enum Border {
     At(usize),
     Nowhere,
 }
 
-fn main() {
-    let mut input = [0u8; LONGEST];
-    let n = io::read_full(STDIN_FILENO, &mut input);
-    why(&input[..n]);
+fn main(rt: HostRuntime) -> io::Result<()> {
+    let mut input = Vec::new(rt.alloc());
+    rt.stdin().take(LONGEST).read_to_end(&mut input)?;
+    let mut out = String::new(rt.alloc());
+    why(&mut out, &input, border_in(&rt, &input))?;
+    rt.stdout().write_all(out.as_bytes())
 }
 
-fn why(s: &[u8]) {
-    let border = border_in(s);
+fn why(out: &mut String, s: &[u8], border: Border) -> Result<(), AllocError> {
     match border {
-        Border::Nowhere => say::refused(8193),
-        Border::At(size) => offer(front(s, size), after(s, size)),
+        Border::Nowhere => refused(out, 8193),
+        Border::At(size) => offer(out, front(s, size), after(s, size)),
     }
 }
 
-// The first argument says how many bytes are the book; where there is none, the book's counts do.
-fn border_in(s: &[u8]) -> Border {
-    if 1 < os::arg_count() {
-        return border_given();
+fn refused(out: &mut String, number: u16) -> Result<(), AllocError> {
+    writeln!(out, "refused {number}")
+}
+
+// The first argument says how many bytes are the book; where there is none, the book's counts do. An argument that is no number in
+// decimal, or none of 32 bits, leaves no book to judge.
+fn border_in(rt: &impl Env, s: &[u8]) -> Border {
+    let mut word = [0u8; 10];
+    match rt.arg(1, &mut word) {
+        Ok(length) => border_given(front(&word, length)),
+        Err(FillError::TooLong) => Border::Nowhere,
+        Err(FillError::NotPresent) => border_counted(s),
     }
+}
+
+fn border_given(word: &[u8]) -> Border {
+    let size = decimal(word, u32::MAX);
+    match size {
+        Number::Is(n) => Border::At(n as usize),
+        Number::Wrong => Border::Nowhere,
+    }
+}
+
+fn border_counted(s: &[u8]) -> Border {
     if policy_book::book_in_front(s) {
         Border::At(policy_lines::book_size(s) as usize)
     } else {
@@ -51,117 +76,132 @@ fn border_in(s: &[u8]) -> Border {
     }
 }
 
-// An argument that is no number in decimal, or none of 32 bits, leaves no book to judge.
-fn border_given() -> Border {
-    let mut word = [0u8; 10];
-    let length = os::arg(1, &mut word);
-    let size = decimal(front(&word, length), u32::MAX);
-    match size {
-        Number::Is(n) => Border::At(n as usize),
-        Number::Wrong => Border::Nowhere,
-    }
-}
-
-fn offer(book: &[u8], m: &[u8]) {
+fn offer(out: &mut String, book: &[u8], m: &[u8]) -> Result<(), AllocError> {
     let offer = policy_why::offered(book, m);
     match offer {
-        Offer::Refused(number) => say::refused(number),
+        Offer::Refused(number) => refused(out, number),
         Offer::Readable { exchange, count } => {
             if line_count(exchange, book) == 0 {
-                no_lines(exchange);
+                no_lines(out, exchange)
             } else {
-                sets(exchange, book, sa_of(count, m));
+                sets(out, exchange, book, sa_of(count, m))
             }
         }
     }
 }
 
-fn no_lines(exchange: u8) {
+fn no_lines(out: &mut String, exchange: u8) -> Result<(), AllocError> {
     if exchange == 2 {
-        say::text(b"the book has no main lines\n");
+        writeln!(out, "the book has no main lines")
     } else {
-        say::text(b"the book has no quick lines\n");
+        writeln!(out, "the book has no quick lines")
     }
 }
 
-fn sets(exchange: u8, book: &[u8], body: &[u8]) {
-    let count = set_count(body);
-    let mut k = 0;
-    while k < count {
-        lines(exchange, book, sa_sets::set(k, body));
-        k += 1;
+fn sets(out: &mut String, exchange: u8, book: &[u8], body: &[u8]) -> Result<(), AllocError> {
+    for k in 0..set_count(body) {
+        lines(out, exchange, book, sa_sets::set(k, body))?;
     }
+    Ok(())
 }
 
-fn lines(exchange: u8, book: &[u8], set: &[u8]) {
-    let count = line_count(exchange, book);
-    let mut i = 0;
-    while i < count {
-        pair(exchange, LineNumber(i + 1), book, set);
-        i += 1;
+fn lines(out: &mut String, exchange: u8, book: &[u8], set: &[u8]) -> Result<(), AllocError> {
+    for i in 0..line_count(exchange, book) {
+        pair(out, exchange, LineNumber(i + 1), book, set)?;
     }
+    Ok(())
 }
 
-fn pair(exchange: u8, line: LineNumber, book: &[u8], set: &[u8]) {
+fn pair(
+    out: &mut String,
+    exchange: u8,
+    line: LineNumber,
+    book: &[u8],
+    set: &[u8],
+) -> Result<(), AllocError> {
     let cause = pair_cause(exchange, line, book, set);
     match cause {
         PairCause::Suits => {
-            begin(exchange, line, book, set);
-            say::text(b"suits\n");
+            begin(out, exchange, line, book, set)?;
+            writeln!(out, "suits")
         }
         PairCause::Protocols => {
-            begin(exchange, line, book, set);
-            say::text(b"protocols: the set has ");
-            names::protocols_of(set);
-            say::end_line();
+            begin(out, exchange, line, book, set)?;
+            writeln!(out, "protocols: the set has {}", names::protocols_of(set))
         }
-        PairCause::Transforms => proposals(exchange, line, book, set),
+        PairCause::Transforms => proposals(out, exchange, line, book, set),
     }
 }
 
-fn proposals(exchange: u8, line: LineNumber, book: &[u8], set: &[u8]) {
-    let count = proposal_count(set);
-    let mut p = 0;
-    while p < count {
-        transforms(exchange, line, book, set, proposal(p, set));
-        p += 1;
+fn proposals(
+    out: &mut String,
+    exchange: u8,
+    line: LineNumber,
+    book: &[u8],
+    set: &[u8],
+) -> Result<(), AllocError> {
+    for p in 0..proposal_count(set) {
+        transforms(out, exchange, line, book, set, proposal(p, set))?;
     }
+    Ok(())
 }
 
-fn transforms(exchange: u8, line: LineNumber, book: &[u8], set: &[u8], p: &[u8]) {
-    let count = transform_count(p);
-    let mut t = 0;
-    while t < count {
-        begin(exchange, line, book, set);
-        transform(exchange, line, book, protocol(p), sa_items::transform(t, p));
-        t += 1;
+fn transforms(
+    out: &mut String,
+    exchange: u8,
+    line: LineNumber,
+    book: &[u8],
+    set: &[u8],
+    p: &[u8],
+) -> Result<(), AllocError> {
+    for t in 0..transform_count(p) {
+        begin(out, exchange, line, book, set)?;
+        transform(
+            out,
+            exchange,
+            line,
+            book,
+            protocol(p),
+            sa_items::transform(t, p),
+        )?;
     }
+    Ok(())
 }
 
-fn transform(exchange: u8, line: LineNumber, book: &[u8], protocol: u8, t: &[u8]) {
+fn transform(
+    out: &mut String,
+    exchange: u8,
+    line: LineNumber,
+    book: &[u8],
+    protocol: u8,
+    t: &[u8],
+) -> Result<(), AllocError> {
     if exchange != 2 {
-        names::protocol(protocol);
-        say::text(b" ");
+        write!(out, "{} ", names::protocol(protocol))?;
     }
-    say::labelled(b"transform ", transform_number(t).0 as u64);
+    write!(out, "transform {}", transform_number(t).0)?;
     let cause = transform_cause(exchange, line, book, protocol, t);
-    cause::cause(exchange, protocol, cause);
-    say::end_line();
+    cause::cause(out, exchange, protocol, cause)?;
+    out.push('\n')
 }
 
 // What is said first of a set and a line: their numbers, and what the line wants.
-fn begin(exchange: u8, line: LineNumber, book: &[u8], set: &[u8]) {
-    say::labelled(b"set ", proposal_number(proposal(0, set)).0 as u64);
-    say::labelled(b", line ", line.0 as u64);
+fn begin(
+    out: &mut String,
+    exchange: u8,
+    line: LineNumber,
+    book: &[u8],
+    set: &[u8],
+) -> Result<(), AllocError> {
+    let number = proposal_number(proposal(0, set)).0;
+    write!(out, "set {number}, line {} (", line.0)?;
     let i = place(line);
     if exchange == 2 {
-        say::labelled(b" (main mode, to ", main_seconds(i, book) as u64);
+        write!(out, "main mode, to {}", main_seconds(i, book))?;
     } else {
-        say::text(b" (");
-        names::protocols(quick_protocols(i, book));
-        say::text(b", ");
-        names::mode(quick_mode(i, book) as u32);
-        say::labelled(b", to ", quick_seconds(i, book) as u64);
+        let protocols = names::protocols(quick_protocols(i, book));
+        let mode = names::mode(quick_mode(i, book) as u32);
+        write!(out, "{protocols}, {mode}, to {}", quick_seconds(i, book))?;
     }
-    say::text(b" s): ");
+    write!(out, " s): ")
 }

@@ -12,6 +12,8 @@ pub struct Family {
 
 pub struct Crate {
     pub name: String,
+    /// Whether it is a static library, which no crate rests on.
+    pub is_static: bool,
     pub rests_on: Vec<String>,
 }
 
@@ -24,7 +26,8 @@ pub fn families(text: &str) -> Vec<Family> {
             found.push(Family { name, crates: Vec::new() });
         } else if let (Some(family), Some((name, rests_on))) = (found.last_mut(), line.split_once(':')) {
             let rests_on = rests_on.split_whitespace().map(String::from).collect();
-            family.crates.push(Crate { name: name.into(), rests_on });
+            let (name, kind) = name.split_once(' ').unwrap_or((name, ""));
+            family.crates.push(Crate { name: name.into(), is_static: kind == "staticlib", rests_on });
         }
     }
     found.retain(|family| !family.crates.is_empty());
@@ -85,19 +88,23 @@ mod tests {
     use super::*;
 
     const CRATES: &str =
-        "# NAME: what it rests on.\n\n# wire: bytes\nread:\nput: read\n\n# programs\nbench: read put io\n";
+        "# NAME: what it rests on.\n\n# wire: bytes\nread:\nput: read\n\n# programs\nbench: read put io\nlinked staticlib: put\n";
 
     #[test]
     fn a_comment_line_begins_a_family() {
         let found = families(CRATES);
         assert_eq!(found.iter().map(|family| family.name.as_str()).collect::<Vec<_>>(), ["wire", "programs"]);
         assert_eq!(found[0].crates[1].rests_on, ["read"]);
+        let kinds = found[1].crates.iter().map(|krate| (krate.name.as_str(), krate.is_static));
+        assert_eq!(kinds.collect::<Vec<_>>(), [("bench", false), ("linked", true)]);
     }
 
     #[test]
     fn an_arrow_that_follows_from_others_is_left_out() {
-        let boxes = "  subgraph family0 [\"wire\"]\n    read\n    put\n  end\n  subgraph family1 [\"programs\"]\n    bench\n  end\n";
-        let made = format!("before\n```mermaid\nflowchart TD\n{boxes}  put --> read\n  bench --> put\n```\nafter\n");
+        let boxes = "  subgraph family0 [\"wire\"]\n    read\n    put\n  end\n  subgraph family1 [\"programs\"]\n    bench\n    linked\n  end\n";
+        let made = format!(
+            "before\n```mermaid\nflowchart TD\n{boxes}  put --> read\n  bench --> put\n  linked --> put\n```\nafter\n"
+        );
         assert_eq!(written("before\n```mermaid\nold\n```\nafter\n", &families(CRATES)), made);
     }
 }

@@ -1,5 +1,6 @@
 //! What the house keeps, checked from the sources. Every public function has a contract, a row in docs/CONTRACTS.md, a must-fail edit and
-//! a theorem that it has one answer, and every row is of something that its crate declares. That page's column of edits and the diagram in
+//! a theorem that it has one answer, and every row is of something that its crate declares; a static library's function has an edit, and the
+//! name and the clauses of a library's. That page's column of edits and the diagram in
 //! docs/ARCHITECTURE.md are as they are made from the sources. The edits of tests/wrong-cores name a definition. No axiom is declared. The
 //! pages name only files that exist, and where they lay out definitions only names that the sources declare. Each sample answers as its page
 //! says, and README.md shows what it does. Header, archives and that page have the same exported functions.
@@ -100,22 +101,35 @@ fn contracts(root: &Path, tally: &mut Tally) {
     let edits = edits::edits(&root.join("crates"));
     let theorems = one_answer(root);
     let functions = public_functions(&root.join("crates"));
+    let linked = static_libraries(root);
     tally.fact(!functions.is_empty(), || "no public function was found".into());
-    for PublicFunction { krate, name, contract } in functions {
+    for function in &functions {
+        let PublicFunction { krate, name, contract } = function;
         tally.fact(contract.contains("ensures"), || format!("{krate}::{name} ensures nothing"));
         tally.fact(!contract.contains("requires"), || format!("{krate}::{name} requires something"));
+        let edited = || edits.iter().any(|edit| edit.krate == *krate && edit.names.contains(name));
+        if linked.contains(krate) {
+            let same = functions.iter().any(|other| !linked.contains(&other.krate) && function.says_the_same(other));
+            tally.fact(same, || format!("no library's function has the name and the clauses of {krate}::{name}"));
+            tally.fact(edited(), || format!("no must-fail edit names {krate}::{name}"));
+            continue;
+        }
         tally.fact(rows.contains(&(krate.clone(), name.clone())), || {
             format!("{CONTRACTS} has no row for {krate}::{name}")
         });
-        if excepted(&page, &krate, &name) {
+        if excepted(&page, krate, name) {
             continue;
         }
         let theorem = format!("{krate}-{name}").replace('_', "-");
         tally.fact(theorems.contains(&format!("pub {theorem} :")), || format!("there is no theorem {theorem}"));
-        tally.fact(edits.iter().any(|edit| edit.krate == krate && edit.names.contains(&name)), || {
-            format!("no must-fail edit names {krate}::{name}")
-        });
+        tally.fact(edited(), || format!("no must-fail edit names {krate}::{name}"));
     }
+}
+
+/// The crates that other languages link. The rows of their functions are those of the libraries that have the same.
+fn static_libraries(root: &Path) -> Vec<String> {
+    let crates = families(&text(&root.join("crates.txt"))).into_iter().flat_map(|family| family.crates);
+    crates.filter(|krate| krate.is_static).map(|krate| krate.name).collect()
 }
 
 /// The theorems that a contract has one answer, of all families.
@@ -144,13 +158,15 @@ fn rows_declared(root: &Path, tally: &mut Tally) {
 
 fn edits_named(root: &Path, tally: &mut Tally) {
     let rows = edits::rows(&text(&root.join(CONTRACTS)));
+    let linked = static_libraries(root);
     for edit in edits::edits(&root.join("crates")) {
         let label = format!("crates/{}/must-fail/{}.edit", edit.krate, edit.label);
         tally.fact(!edit.names.is_empty(), || {
             format!("a part of {label} does not begin with `# NAME: what it gets wrong`")
         });
         for name in edit.names {
-            tally.fact(rows.contains(&(edit.krate.clone(), name.clone())), || {
+            let has_row = rows.iter().any(|row| (row.0 == edit.krate || linked.contains(&edit.krate)) && row.1 == name);
+            tally.fact(has_row, || {
                 format!("{label} names {name}, for which {CONTRACTS} has no row under {}", edit.krate)
             });
         }

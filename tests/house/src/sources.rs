@@ -11,7 +11,15 @@ pub struct PublicFunction {
     pub contract: String,
 }
 
-/// Every file below a folder with this ending, in the order of their names.
+impl PublicFunction {
+    /// Whether another function has the same name, parameters and clauses, however they are laid out.
+    pub fn says_the_same(&self, other: &PublicFunction) -> bool {
+        let words = |contract: &str| contract.split_whitespace().collect::<String>().replace(",)", ")");
+        self.name == other.name && words(&self.contract) == words(&other.contract)
+    }
+}
+
+/// Every file below a folder with this ending, in the order of their names. What rt keeps of a crate, its folder out, is passed over.
 pub fn below(folder: &Path, ending: &str) -> Vec<PathBuf> {
     let mut found = Vec::new();
     let mut folders = vec![folder.to_path_buf()];
@@ -19,7 +27,9 @@ pub fn below(folder: &Path, ending: &str) -> Vec<PathBuf> {
         for entry in fs::read_dir(next).into_iter().flatten().flatten() {
             let path = entry.path();
             if path.is_dir() {
-                folders.push(path);
+                if !path.ends_with("out") {
+                    folders.push(path);
+                }
             } else if path.extension().is_some_and(|e| e == ending) {
                 found.push(path);
             }

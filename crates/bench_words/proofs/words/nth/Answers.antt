@@ -1,0 +1,14 @@
+use mathlib.Core.Path.{ap}
+use native.Mathlib.Omega.{arith}
+use Rattle.bench_words.specs.Words.{word_of}
+use Rattle.bench_words.proofs.WordLaws.{nth_on, nth_end}
+use Rattle.bench_words.proofs.words.nth.Goals as goal
+
+pub loop-passed-init : goal.loop-passed-init
+loop-passed-init c = (omega arith, omega arith, ap (word_of _) (omega arith))
+
+pub loop-passed-preserved : goal.loop-passed-preserved
+loop-passed-preserved c = (omega arith, omega arith, search nth_on)
+
+pub returns : goal.returns
+returns c = search nth_end

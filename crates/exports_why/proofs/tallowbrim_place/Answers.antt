@@ -1,0 +1,40 @@
+use Prim.Native.Nat.{ℕ}
+use mathlib.Core.Path.{◌≡◌, refl}
+use mathlib.Core.List.{List, [], ◌∷◌}
+use mathlib.Core.Bool.{Bool, true, false, not}
+use Rattle.wire_read.specs.Tests.{if◌then◌else◌}
+use Rattle.message_chain.specs.Message.{message}
+use Rattle.policy_choice.specs.Choice.{sa_from}
+use Rattle.policy_why.specs.Why.{message_offer, is_place}
+use Rattle.policy_why.specs.declared.Offer.{Offer}
+use Rattle.policy_why.specs.declared.Offer.TheVariants.{Refused, Readable}
+use Rattle.policy_why.specs.declared.Places.{Places}
+use Rattle.exports_words.specs.Given.{given, left, words}
+use Rattle.exports_why.specs.Places.{found_values, place_values, offer_place, place_answer}
+use Rattle.exports_why.proofs.tallowbrim_place.Goals as goal
+
+some_left : (missing : Bool) (values out : List ℕ) →
+    left 4 (if missing then 1 ∷ [] else 2 ∷ values) out ≡ words 4 (if missing then 1 ∷ [] else 2 ∷ values)
+unfolding left
+some_left true values out = refl
+some_left false values out = refl
+
+place-left : (body : List ℕ) (at : Places) (out : List ℕ) → left 4 (place_values body at) out ≡ words 4 (place_values body at)
+unfolding place_values found_values
+place-left body at out = some_left (not (is_place body at)) _ out
+
+module _ (m : List ℕ) (at : Places) (offer : Offer) (same : offer ≡ message_offer m (message m)) (out : List ℕ) where
+  given-refused : (number : ℕ) → offer ≡ Refused number → given 4 (place_answer m at) out ≡ (number, out)
+  unfolding given left place_answer offer_place
+  given-refused number is = rw (← same, is)
+
+  given-place : (exchange count : ℕ) → offer ≡ Readable exchange count → (body r : List ℕ) → body ≡ sa_from count 0 m →
+      r ≡ words 4 (place_values body at) → given 4 (place_answer m at) out ≡ (0, r)
+  unfolding given place_answer offer_place
+  given-place exchange count is body r eb er = rw (← same, is, ← eb, place-left, ← er)
+
+pub returns-in-Refused : goal.returns-in-Refused
+returns-in-Refused c = search given-refused
+
+pub returns-in-Readable : goal.returns-in-Readable
+returns-in-Readable c = search given-place
