@@ -1,6 +1,8 @@
 // Lists every record of a capture file that comes on standard input: one line each, and with a policy book, whose path is the
 // first argument, a second line for a message with an offer. A file of any length goes through two buffers that main makes once
 // and lends to everything below, as it does the table of SA entries.
+#![tactic(auto)]
+
 mod advice;
 mod book;
 mod input;
@@ -12,6 +14,9 @@ mod told;
 use capture_buffer::{Held, held_in};
 use capture_header::{FileHeader, Order, file_header, header_cause};
 use sequence_table::table::{ROOMS, Table, WORDS};
+use std::io::IsTerminal;
+use std::process::ExitCode;
+use std::rt::Runtime;
 
 type Large = [u8; 65536];
 
@@ -19,14 +24,15 @@ type Large = [u8; 65536];
 type Occurred = [bool; 8202];
 
 // What goes from record to record: what is held of the input and whether it has ended; how far the output is filled; whether to
-// read on; the next record's number and the byte where its header begins; what was said of on standard error; how far the file
+// read on; whether the reader of the listing has left; the next record's number and the byte where its header begins; what was said of on standard error; how far the file
 // goes and where a word on progress is due next.
-#[derive(Drop)]
+#[derive(Clone, Copy)]
 struct State {
     held: Held,
     ended: bool,
     said: usize,
     going: bool,
+    left: bool,
     number: u64,
     place: u64,
     snap: bool,
@@ -36,47 +42,53 @@ struct State {
     due: u64,
 }
 
-fn main() {
-    let mut input = io::large_buffer();
-    let mut out = io::large_buffer();
+// The status of a listing whose reader ends first is that of a program which the signal for that ends.
+const LEFT: u8 = 141;
+
+fn main(rt: HostRuntime) -> ExitCode {
+    let mut input = [0u8; 65536];
+    let mut out = [0u8; 65536];
     // The empty table.
     let mut table = [0u64; ROOMS * WORDS];
     let mut occurred = [false; 8202];
-    let mut path = io::buffer();
-    let mut book = [0u8; book::ROOM];
-    list(
+    let terminal = rt.stderr().is_terminal();
+    let state = list(
+        &rt,
+        terminal,
         &mut input,
         &mut out,
         &mut table,
         &mut occurred,
-        &mut path,
-        &mut book,
     );
+    if state.left {
+        return ExitCode::from(LEFT);
+    }
+    told::refusals(&rt, &occurred);
+    ExitCode::SUCCESS
 }
 
 // Lists the whole file.
 fn list(
+    rt: &impl Runtime,
+    terminal: bool,
     input: &mut Large,
     out: &mut Large,
     table: &mut Table,
     occurred: &mut Occurred,
-    path: &mut [u8],
-    book: &mut [u8],
-) {
-    let state = begun();
-    let state = input::hold(input, out, 24, state);
-    let state = header(input, out, table, occurred, path, book, state);
-    output::flush(out, state);
-    told::refusals(occurred);
+) -> State {
+    let state = begun(progress::size_to_tell(rt, terminal));
+    let state = input::hold(rt, input, out, 24, state);
+    let state = header(rt, input, out, table, occurred, state);
+    output::flush(rt, out, state)
 }
 
-fn begun() -> State {
-    let size = progress::size_to_tell();
+fn begun(size: u64) -> State {
     State {
         held: Held { from: 0, to: 0 },
         ended: false,
         said: 0,
         going: true,
+        left: false,
         number: 1,
         place: 24,
         snap: false,
@@ -89,12 +101,11 @@ fn begun() -> State {
 
 // What the file begins with, and then the rest of it. A file that cannot be read to its end has no header to judge.
 fn header(
+    rt: &impl Runtime,
     input: &mut Large,
     out: &mut Large,
     table: &mut Table,
     occurred: &mut Occurred,
-    path: &mut [u8],
-    book: &mut [u8],
     state: State,
 ) -> State {
     if !state.going {
@@ -105,44 +116,38 @@ fn header(
     let header = file_header(begin);
     match header {
         FileHeader::Refused(number) => {
-            let state = output::refused(out, occurred, number, state);
-            let state = output::flush(out, state);
-            advice::header(header_cause(begin));
+            let state = output::refused(rt, out, occurred, number, state);
+            let state = output::flush(rt, out, state);
+            if !state.left {
+                advice::header(rt, header_cause(begin));
+            }
             state
         }
         FileHeader::Read(order) => {
             let state = input::take(24, state);
-            with_book(order, input, out, table, occurred, path, book, state)
+            with_book(rt, order, input, out, table, occurred, state)
         }
     }
 }
 
 // The book is read before the first record, and one that is unlawful ends the listing.
 fn with_book(
+    rt: &impl Runtime,
     order: Order,
     input: &mut Large,
     out: &mut Large,
     table: &mut Table,
     occurred: &mut Occurred,
-    path: &mut [u8],
-    book: &mut [u8],
     mut state: State,
 ) -> State {
-    let given = book::read(path, book);
+    let mut book = Vec::new(rt.alloc());
+    let given = book::read(rt, &mut book);
     match given {
-        book::Given::Nothing => records(order, input, out, table, occurred, b"", state),
-        book::Given::Lawful(size) => records(
-            order,
-            input,
-            out,
-            table,
-            occurred,
-            wire_read::front(book, size),
-            state,
-        ),
-        book::Given::Refused(number) => output::refused(out, occurred, number, state),
+        book::Given::Nothing => records(rt, order, input, out, table, occurred, b"", state),
+        book::Given::Lawful => records(rt, order, input, out, table, occurred, &book, state),
+        book::Given::Refused(number) => output::refused(rt, out, occurred, number, state),
         book::Given::Unread => {
-            told::failed(b"cannot read the book");
+            told::failed(rt, "cannot read the book");
             state.going = false;
             state
         }
@@ -150,6 +155,7 @@ fn with_book(
 }
 
 fn records(
+    rt: &impl Runtime,
     order: Order,
     input: &mut Large,
     out: &mut Large,
@@ -159,10 +165,11 @@ fn records(
     mut state: State,
 ) -> State {
     // A proved loop has to end: no file uses this number up.
-    let mut turns = u64::MAX;
-    while turns > 0 && state.going {
-        state = record::next(order, input, out, table, occurred, book, state);
-        turns -= 1;
+    for _ in 0..u64::MAX {
+        if !state.going {
+            break;
+        }
+        state = record::next(rt, order, input, out, table, occurred, book, state);
     }
     state
 }

@@ -1,30 +1,30 @@
 // How far a long file is listed, for who waits at a terminal.
 use crate::State;
-use libc::{SEEK_CUR, SEEK_END, SEEK_SET, STDERR_FILENO, STDIN_FILENO};
-use std::num::wrapping_add_u64;
+use std::fs;
+use std::rt::Runtime;
 
 const LONG: u64 = 50000000;
 
-// The length of standard input where progress is told: on a terminal, of a file over 50 MB. Else 0.
-pub(crate) fn size_to_tell() -> u64 {
-    if libc::isatty(STDERR_FILENO) != 1 {
+// The length of standard input where progress is told: on a terminal, of a file over 50 MB that is read from its front. Else 0.
+pub(crate) fn size_to_tell(rt: &impl Runtime, terminal: bool) -> u64 {
+    if !terminal {
         return 0;
     }
-    if libc::lseek(STDIN_FILENO, 0, SEEK_CUR) != 0 {
+    if !at_front(rt) {
         return 0;
     }
-    let end = libc::lseek(STDIN_FILENO, 0, SEEK_END);
-    libc::lseek(STDIN_FILENO, 0, SEEK_SET);
-    let size = from_zero(end);
-    if LONG < size { size } else { 0 }
+    let Ok(file) = fs::metadata(rt, "/dev/stdin") else {
+        return 0;
+    };
+    if LONG < file.len() { file.len() } else { 0 }
 }
 
-// A place that lseek answers; 0 where it fails.
-fn from_zero(place: i64) -> u64 {
-    if place < 0 {
-        return 0;
-    }
-    place as u64
+// Whether nothing of standard input is read yet; no where the system does not say.
+fn at_front(rt: &impl Runtime) -> bool {
+    let Ok(text) = fs::read_to_string(rt, "/proc/self/fdinfo/0") else {
+        return false;
+    };
+    text.as_bytes().starts_with(b"pos:\t0\n")
 }
 
 // Where the first word is due; nowhere where none is.
@@ -33,18 +33,15 @@ pub(crate) fn first(size: u64) -> u64 {
 }
 
 // Says how far the listing is, a line at each tenth.
-pub(crate) fn tell(mut state: State) -> State {
+pub(crate) fn tell(rt: &impl Runtime, mut state: State) -> State {
     if state.place < state.due {
         return state;
     }
     let tenth = state.size / 10 + 1;
     // The remainder changes nothing up to the tenth tenth; it shows the prover that the product fits.
     let tenths = state.place / tenth % 16;
-    io::write_all(STDERR_FILENO, b"./capture: ");
-    io::print_decimal(STDERR_FILENO, tenths * 10);
-    io::write_all(STDERR_FILENO, b" % of ");
-    io::print_decimal(STDERR_FILENO, state.size / 1000000);
-    io::write_all(STDERR_FILENO, b" MB\n");
-    state.due = wrapping_add_u64(state.due, tenth);
+    let megabytes = state.size / 1000000;
+    let _ = eprintln!(rt; "./capture: {} % of {megabytes} MB", tenths * 10);
+    state.due = state.due.wrapping_add(tenth);
     state
 }

@@ -8,11 +8,12 @@ use capture_words::{choice, place, stamp, what};
 use policy_choice::Choice;
 use sequence_record::Verdict;
 use sequence_table::table::Table;
-use std::num::wrapping_add_u64;
+use std::rt::Runtime;
 use wire_read::front;
 
 // Lists the record at the front of what is left of the file; at its end there is none.
 pub(crate) fn next(
+    rt: &impl Runtime,
     order: Order,
     input: &mut Large,
     out: &mut Large,
@@ -21,7 +22,7 @@ pub(crate) fn next(
     book: &[u8],
     state: State,
 ) -> State {
-    let mut state = input::hold(input, out, 16, state);
+    let mut state = input::hold(rt, input, out, 16, state);
     let held = state.held;
     let left = held_in(input, held);
     if !state.going | (left.len() == 0) {
@@ -30,11 +31,13 @@ pub(crate) fn next(
     }
     let header = record_header(order, left);
     match header {
-        RecordHeader::CutShort => header_cut_short(out, state),
+        RecordHeader::CutShort => header_cut_short(rt, out, state),
         RecordHeader::Refused(number) => {
-            let state = output::refused(out, occurred, number, state);
-            let state = output::flush(out, state);
-            advice::long_record(order, left, state);
+            let state = output::refused(rt, out, occurred, number, state);
+            let state = output::flush(rt, out, state);
+            if !state.left {
+                advice::long_record(rt, order, left, state);
+            }
             state
         }
         RecordHeader::Read {
@@ -44,16 +47,18 @@ pub(crate) fn next(
             original,
         } => {
             let state = input::take(16, state);
-            let state = input::hold(input, out, captured as usize, state);
+            let state = input::hold(rt, input, out, captured as usize, state);
             let state = begin_line(out, seconds, microseconds, state);
-            bytes(input, out, table, occurred, book, captured, original, state)
+            bytes(
+                rt, input, out, table, occurred, book, captured, original, state,
+            )
         }
     }
 }
 
-fn header_cut_short(out: &mut Large, mut state: State) -> State {
+fn header_cut_short(rt: &impl Runtime, out: &mut Large, mut state: State) -> State {
     state.said = place(out, state.said, state.number, state.place);
-    cut_short(out, state)
+    cut_short(rt, out, state)
 }
 
 // A read that failed ends the listing without a line for the record that it broke off.
@@ -66,14 +71,15 @@ fn begin_line(out: &mut Large, seconds: u32, microseconds: u32, mut state: State
 }
 
 // The rest of a line whose record the file cuts short: the last.
-fn cut_short(out: &mut Large, mut state: State) -> State {
+fn cut_short(rt: &impl Runtime, out: &mut Large, mut state: State) -> State {
     state.said = append(out, state.said, b" cut short");
     state.going = false;
-    output::end_line(out, state)
+    output::end_line(rt, out, state)
 }
 
 // What the bytes of a record are listed as.
 fn bytes(
+    rt: &impl Runtime,
     input: &[u8],
     out: &mut Large,
     table: &mut Table,
@@ -89,17 +95,17 @@ fn bytes(
     let held = state.held;
     let s = front(held_in(input, held), captured as usize);
     if s.len() < captured as usize {
-        return cut_short(out, state);
+        return cut_short(rt, out, state);
     }
     let listed = list_record(table, original, s);
     let m = handed_in(original, s);
     told::occurs(occurred, refusal(listed));
     state.said = append(out, state.said, b" ");
     state.said = what(out, state.said, listed, m);
-    let state = output::end_line(out, state);
-    let state = offer(out, occurred, book, listed, m, state);
-    let state = advice::record(out, original, s, listed, refusal(listed), state);
-    behind(captured, state)
+    let state = output::end_line(rt, out, state);
+    let state = offer(rt, out, occurred, book, listed, m, state);
+    let state = advice::record(rt, out, original, s, listed, refusal(listed), state);
+    behind(rt, captured, state)
 }
 
 // The refusal that is listed; 0 where none is.
@@ -131,6 +137,7 @@ fn refusal_of(verdict: Verdict) -> u16 {
 
 // With a book, the second line of a message that reads and has an SA payload. The message reads, so that 16 says that it has none.
 fn offer(
+    rt: &impl Runtime,
     out: &mut Large,
     occurred: &mut Occurred,
     book: &[u8],
@@ -157,7 +164,7 @@ fn offer(
     told::occurs(occurred, number);
     state.said = append(out, state.said, b"  ");
     state.said = choice(out, state.said, chosen);
-    output::end_line(out, state)
+    output::end_line(rt, out, state)
 }
 
 fn refusal_to_choose(chosen: Choice) -> u16 {
@@ -168,9 +175,9 @@ fn refusal_to_choose(chosen: Choice) -> u16 {
 }
 
 // Goes on behind the bytes of a record. No file is so long that these numbers begin anew.
-fn behind(captured: u16, state: State) -> State {
+fn behind(rt: &impl Runtime, captured: u16, state: State) -> State {
     let mut state = input::take(captured as usize, state);
-    state.number = wrapping_add_u64(state.number, 1);
-    state.place = wrapping_add_u64(state.place, 16 + captured as u64);
-    progress::tell(state)
+    state.number = state.number.wrapping_add(1);
+    state.place = state.place.wrapping_add(16 + captured as u64);
+    progress::tell(rt, state)
 }

@@ -1,19 +1,32 @@
-// What ./capture is told on descriptor 3, since a program has no exit status to give: `failed SENTENCE`, and `refused N` for each
-// number that the listing has. A second argument asks for it: without one, that descriptor may be anything of the caller's.
+// What ./capture is told on descriptor 3, beside the exit status: `failed SENTENCE`, and `refused N` for each number that the listing
+// has. A second argument asks for it: without one, that descriptor may be anything of the caller's.
 use crate::Occurred;
+use std::env::FillError;
+use std::fmt::Display;
+use std::fs::OpenOptions;
+use std::io::Write;
+use std::rt::Runtime;
 
-const TOLD_FILENO: i32 = 3;
+const TOLD: &str = "/dev/fd/3";
 
-fn tell(text: &[u8]) {
-    if 2 < os::arg_count() {
-        io::write_all(TOLD_FILENO, text);
+fn is_asked(rt: &impl Runtime) -> bool {
+    match rt.arg(2, &mut [0u8; 1]) {
+        Err(FillError::NotPresent) => false,
+        _ => true,
     }
 }
 
-pub(crate) fn failed(sentence: &[u8]) {
-    tell(b"failed ");
-    tell(sentence);
-    tell(b"\n");
+fn tell(rt: &impl Runtime, line: impl Display + Drop) {
+    if !is_asked(rt) {
+        return;
+    }
+    if let Ok(mut to) = OpenOptions::new().append(true).open(rt, TOLD) {
+        let _ = to.writeln(line);
+    }
+}
+
+pub(crate) fn failed(rt: &impl Runtime, sentence: &str) {
+    tell(rt, format_args!("failed {sentence}"));
 }
 
 // Notes that the listing has a number. 0 is no refusal.
@@ -24,20 +37,10 @@ pub(crate) fn occurs(occurred: &mut Occurred, number: u16) {
     }
 }
 
-pub(crate) fn refusals(occurred: &Occurred) {
-    let mut n = 1;
-    while n < occurred.len() {
+pub(crate) fn refusals(rt: &impl Runtime, occurred: &Occurred) {
+    for n in 1..occurred.len() {
         if occurred[n] {
-            refused(n as u64);
+            tell(rt, format_args!("refused {n}"));
         }
-        n += 1;
     }
-}
-
-fn refused(number: u64) {
-    let mut text = [0u8; 20];
-    let count = io::decimal(number, &mut text);
-    tell(b"refused ");
-    tell(&text[..count]);
-    tell(b"\n");
 }
