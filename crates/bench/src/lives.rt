@@ -9,13 +9,13 @@ use sequence_table::table;
 use sequence_table::table::{Counted, Key, Outcome, Sending, Table};
 use wire_read::front;
 
-#[derive(Drop)]
+#[derive(Clone, Copy)]
 enum Addressed {
     To { destination: u32, protocol: u8 },
     Wrong,
 }
 
-#[derive(Drop)]
+#[derive(Clone, Copy)]
 enum Named {
     By(Key),
     Wrong,

@@ -2,6 +2,8 @@
 // stands in verbs.rt and, for the quick mode ends, in bench_ends. Input of any length goes through four buffers that main
 // makes once and lends to everything below, as it does the table of SA entries, the plain list and the kept buffers of the
 // ends.
+#![tactic(auto)]
+
 mod captured;
 mod choosing;
 mod element;
@@ -20,10 +22,10 @@ mod verbs;
 use bench_ends::{Kept, Seats};
 use bench_words::say::append;
 use bench_words::words::find;
-use libc::{STDIN_FILENO, STDOUT_FILENO};
 use sequence_plain::{MOST, PlainList};
 use sequence_record::{Receive, new_receive};
 use sequence_table::table::{ROOMS, Table, WORDS};
+use std::io::{Read, Write};
 use wire_read::{after, front};
 
 type Large = [u8; 65536];
@@ -42,7 +44,7 @@ const MOST_SAID: usize = 65536 - LONGEST_ANSWER;
 
 // What goes from line to line, but for the quick mode ends: how far the input is taken and filled, how far the line and
 // the output are filled, whether the line is whole, whether to read on, and the record of the lines that begin with `lent`.
-#[derive(Drop)]
+#[derive(Clone, Copy)]
 struct State {
     taken: usize,
     filled: usize,
@@ -53,19 +55,19 @@ struct State {
     lent: Receive,
 }
 
-#[derive(Drop)]
+#[derive(Clone, Copy)]
 struct Held {
     state: State,
     ends: Seats,
 }
 
-fn main() {
-    let mut input = io::large_buffer();
+fn main(rt: HostRuntime) {
+    let mut input = [0u8; 65536];
     // One byte more than the longest line: a longer one fills it, and is known by that.
-    let mut line = io::large_buffer();
+    let mut line = [0u8; 65536];
     // Room for the bytes of a whole line of hex.
     let mut bytes = [0u8; 32768];
-    let mut out = io::large_buffer();
+    let mut out = [0u8; 65536];
     // The empty table.
     let mut lives = [0u64; ROOMS * WORDS];
     // The empty list.
@@ -74,6 +76,8 @@ fn main() {
     let mut sent = [0u8; 8192];
     let mut got = [0u8; 8192];
     run(
+        &mut rt.stdin(),
+        &mut rt.stdout(),
         &mut input,
         &mut line,
         &mut lives,
@@ -87,6 +91,8 @@ fn main() {
 
 // Answers all of the input.
 fn run(
+    reader: &mut impl Read,
+    writer: &mut impl Write,
     input: &mut Large,
     line: &mut Large,
     lives: &mut Table,
@@ -108,18 +114,23 @@ fn run(
     let ends = bench_ends::absent();
     let mut held = Held { state, ends };
     // A proved loop has to end: no run uses this number up.
-    let mut turns = u64::MAX;
-    while turns > 0 && held.state.going {
-        held = turn(input, line, lives, plain_list, sent, got, bytes, out, held);
-        turns -= 1;
+    for _ in 0..u64::MAX {
+        if !held.state.going {
+            break;
+        }
+        held = turn(
+            reader, writer, input, line, lives, plain_list, sent, got, bytes, out, held,
+        );
     }
     let state = held.state;
-    flush(out, state);
+    flush(writer, out, state);
 }
 
 // Takes a piece of the input, and answers the line that it makes whole: a line goes to the ends first, and to the other
 // verbs where it is none of theirs. Nothing below holds the ends.
 fn turn(
+    reader: &mut impl Read,
+    writer: &mut impl Write,
     input: &mut Large,
     line: &mut Large,
     lives: &mut Table,
@@ -132,27 +143,43 @@ fn turn(
 ) -> Held {
     let before = held.state;
     let ends = held.ends;
-    let mut state = next_piece(input, line, out, before);
+    let mut state = next_piece(reader, writer, input, line, out, before);
     let asked = front(line, asked_size(state));
     let answered = bench_ends::answer(asked, sent, got, bytes, out, state.said, ends);
     state.said = answered.said;
-    let state = verbs::answer(line, answered.known, lives, plain_list, bytes, out, state);
+    let state = verbs::answer(
+        writer,
+        line,
+        answered.known,
+        lives,
+        plain_list,
+        bytes,
+        out,
+        state,
+    );
     let ends = answered.ends;
     Held { state, ends }
 }
 
 // Takes the next piece of the input up to a line end, and reads where all that was read is taken. What is left of a line
 // when the input ends is the last line. What was said is written out before each read.
-fn next_piece(input: &mut Large, line: &mut Large, out: &[u8], state: State) -> State {
+fn next_piece(
+    reader: &mut impl Read,
+    writer: &mut impl Write,
+    input: &mut Large,
+    line: &mut Large,
+    out: &[u8],
+    state: State,
+) -> State {
     if state.taken < state.filled {
         return take(front(input, state.filled), line, state);
     }
-    let mut state = flush(out, state);
+    let mut state = flush(writer, out, state);
     if !state.going {
         return state;
     }
     state.taken = 0;
-    state.filled = fill(input);
+    state.filled = fill(reader, input);
     if state.filled == 0 {
         state.whole = true;
         state.going = false;
@@ -161,9 +188,8 @@ fn next_piece(input: &mut Large, line: &mut Large, out: &[u8], state: State) -> 
 }
 
 // Reads once: how many bytes came. A read that fails counts as the end of the input.
-fn fill(input: &mut [u8]) -> usize {
-    let got = libc::read(STDIN_FILENO, input);
-    io::count(got, input)
+fn fill(reader: &mut impl Read, input: &mut [u8]) -> usize {
+    reader.read(input).unwrap_or(0)
 }
 
 // Adds to the line what the part has of it from the place that is reached on.
@@ -185,10 +211,10 @@ fn asked_size(state: State) -> usize {
 }
 
 // Writes out what was said. Where that fails the program ends, and a line that was begun is dropped.
-fn flush(out: &[u8], mut state: State) -> State {
-    let written = io::write_all(STDOUT_FILENO, front(out, state.said));
+fn flush(writer: &mut impl Write, out: &[u8], mut state: State) -> State {
+    let written = writer.write_all(front(out, state.said));
     state.said = 0;
-    if !written {
+    if written.is_err() {
         state.line = 0;
         state.going = false;
     }

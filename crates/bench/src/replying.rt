@@ -6,14 +6,14 @@ use bench_words::{hex, number, say, words};
 use policy_reply::Outcome;
 use wire_read::{after, front};
 
-#[derive(Drop)]
+#[derive(Clone, Copy)]
 struct Own {
     ah: u32,
     esp: u32,
     room: u32,
 }
 
-#[derive(Drop)]
+#[derive(Clone, Copy)]
 enum Given {
     As(Own),
     Wrong,

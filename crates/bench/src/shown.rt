@@ -4,7 +4,7 @@ use bench_words::integrity::Integrity;
 use bench_words::number::Number;
 use bench_words::{integrity, number, words};
 
-#[derive(Drop)]
+#[derive(Clone, Copy)]
 pub(crate) enum Shown {
     Packet { number: u32, whole: bool },
     Bad,

@@ -8,10 +8,12 @@ use bench_words::say::append;
 use bench_words::{say, words};
 use sequence_plain::PlainList;
 use sequence_table::table::Table;
+use std::io::Write;
 use wire_read::{byte, equal, front};
 
 // Answers the line that is kept, where it is whole and no end has answered it, and begins the next one.
 pub(crate) fn answer(
+    writer: &mut impl Write,
     kept: &[u8],
     known: bool,
     lives: &mut Table,
@@ -35,7 +37,7 @@ pub(crate) fn answer(
     state.line = 0;
     state.whole = false;
     if MOST_SAID < state.said {
-        flush(out, state)
+        flush(writer, out, state)
     } else {
         state
     }

@@ -1,4 +1,6 @@
 // The two ends of quick mode as bench keeps them from line to line, and the lines that make, step and show them.
+#![tactic(auto)]
+
 mod making;
 mod seats;
 mod showing;
@@ -13,7 +15,7 @@ pub use seats::{Kept, Seats, absent};
 use seats::{Seat, Who, role_of, seat_of, seated};
 use wire_read::equal;
 
-#[derive(Drop)]
+#[derive(Clone, Copy)]
 enum Verb {
     Fresh,
     Room,
@@ -28,7 +30,7 @@ enum Verb {
 
 // The ends after a line, the place behind what was said, and whether the line's verb is one of an end: where it is none,
 // nothing was said or changed.
-#[derive(Drop)]
+#[derive(Clone, Copy)]
 pub struct Answered {
     pub known: bool,
     pub said: usize,
@@ -123,7 +125,7 @@ fn who(verb: Verb, line: &[u8]) -> Who {
 }
 
 // An end's seat after a line, and the place behind what was said.
-#[derive(Drop)]
+#[derive(Clone, Copy)]
 struct Told {
     seat: Seat,
     said: usize,

@@ -12,7 +12,7 @@ use quick_end::Role;
 use wire_read::{after, front};
 use wire_write::put_bytes;
 
-#[derive(Drop)]
+#[derive(Clone, Copy)]
 struct Own {
     icookie: u64,
     rcookie: u64,
@@ -20,7 +20,7 @@ struct Own {
     esp: u32,
 }
 
-#[derive(Drop)]
+#[derive(Clone, Copy)]
 enum Given {
     As(Own),
     Wrong,
@@ -115,7 +115,7 @@ fn make(
     Told { seat, said }
 }
 
-#[derive(Drop)]
+#[derive(Clone, Copy)]
 enum Asked {
     For(Room),
     Wrong,

@@ -8,7 +8,7 @@ use wire_read::{after, equal, front};
 pub type Kept = [u8; 8192];
 
 // How many bytes of each buffer are lent.
-#[derive(Drop)]
+#[derive(Clone, Copy)]
 pub struct Room {
     pub sent: u16,
     pub got: u16,
@@ -16,20 +16,20 @@ pub struct Room {
 }
 
 // An end, whether it was made, and what is lent to it, which outlives the end.
-#[derive(Drop)]
+#[derive(Clone, Copy)]
 pub struct Seat {
     pub made: bool,
     pub end: End,
     pub room: Room,
 }
 
-#[derive(Drop)]
+#[derive(Clone, Copy)]
 pub struct Seats {
     pub initiator: Seat,
     pub responder: Seat,
 }
 
-#[derive(Drop)]
+#[derive(Clone, Copy)]
 pub(crate) enum Who {
     Is(Role),
     Wrong,

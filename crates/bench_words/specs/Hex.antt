@@ -1,6 +1,6 @@
 -- Bytes in hex: two digits of either case for each byte, or `-` for no bytes.
 use Rattle.std.specs.Prelude.{ℕ, ◌+◌, ◌-◌, ◌*◌, ◌≡◌, [], ◌∷◌, ◌++◌, Bool, true, false, not, ◌&&◌, length, eqb, leb, ltb}
-use Rattle.wire_read.specs.Tests.{if◌then◌else◌}
+use Rattle.wire_read.specs.Tests.{if◌then◌otherwise◌}
 use Rattle.wire_read.specs.Wire.{Bytes, equal}
 use Rattle.wire_write.specs.Put.{paste}
 use Rattle.bench_words.specs.declared.hex.Decoded.{Decoded}
@@ -12,9 +12,9 @@ use Rattle.bench_words.specs.declared.hex.Parted.TheVariants as Parts
 unfoldable pub digit_value : (digit : ℕ) → ℕ
 digit_value digit =
     if leb 48 digit && leb digit 57 then digit - 48
-    else if leb 97 digit && leb digit 102 then digit - 87
-    else if leb 65 digit && leb digit 70 then digit - 55
-    else 16
+    otherwise if leb 97 digit && leb digit 102 then digit - 87
+    otherwise if leb 65 digit && leb digit 70 then digit - 55
+    otherwise 16
 
 -- a whole number of pairs of digits
 unfoldable pub is_hex : (word : Bytes) → Bool
@@ -33,10 +33,10 @@ hex_bytes (a ∷ b ∷ s) = (digit_value a * 16 + digit_value b) ∷ hex_bytes s
 unfoldable pub decoded : (word : Bytes) (at room : ℕ) → Decoded
 decoded word at room =
     if equal word (45 ∷ []) then To at
-    else if eqb (length word) 0 then Wrong
-    else if not (is_hex word) then Wrong
-    else if ltb room (at + length (hex_bytes word)) then Wrong
-    else To (at + length (hex_bytes word))
+    otherwise if eqb (length word) 0 then Wrong
+    otherwise if not (is_hex word) then Wrong
+    otherwise if ltb room (at + length (hex_bytes word)) then Wrong
+    otherwise To (at + length (hex_bytes word))
 
 -- that is told, and where it is not wrong the bytes are put; a wrong word may have been put in part
 abbrev pub Decoding : (word : Bytes) (at : ℕ) (buffer : Bytes) (told : Decoded) (after : Bytes) → Type 0

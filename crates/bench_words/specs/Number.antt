@@ -1,6 +1,6 @@
 -- A word that is a number: in decimal, or as four or eight bytes in hex.
 use Rattle.std.specs.Prelude.{ℕ, ◌+◌, ◌*◌, [], ◌∷◌, Bool, true, ◌&&◌, ◌||◌, length, get_or, eqb, leb, ltb}
-use Rattle.wire_read.specs.Tests.{if◌then◌else◌}
+use Rattle.wire_read.specs.Tests.{if◌then◌otherwise◌}
 use Rattle.wire_read.specs.Wire.{Bytes, number_at}
 use Rattle.bench_words.specs.Hex.{digit_value, is_hex, hex_bytes}
 use Rattle.bench_words.specs.declared.number.Number.{Number}
@@ -22,13 +22,13 @@ spelled n (d ∷ s) = spelled (n * 10 + digit_value d) s
 unfoldable pub decimal : (word : Bytes) (most : ℕ) → Number
 decimal word most =
     if eqb (length word) 0 || ltb 1 (length word) && eqb (get_or word 0 0) 48 then Wrong
-    else if is_decimal word && leb (spelled 0 word) most then Is (spelled 0 word)
-    else Wrong
+    otherwise if is_decimal word && leb (spelled 0 word) most then Is (spelled 0 word)
+    otherwise Wrong
 
 -- eight digits in hex, no fewer and no more
 unfoldable pub four_bytes : (word : Bytes) → Number
-four_bytes word = if eqb (length word) 8 && is_hex word then Is (number_at 4 (hex_bytes word) 0) else Wrong
+four_bytes word = if eqb (length word) 8 && is_hex word then Is (number_at 4 (hex_bytes word) 0) otherwise Wrong
 
 -- sixteen
 unfoldable pub eight_bytes : (word : Bytes) → Cookie
-eight_bytes word = if eqb (length word) 16 && is_hex word then IsCookie (number_at 8 (hex_bytes word) 0) else WrongCookie
+eight_bytes word = if eqb (length word) 16 && is_hex word then IsCookie (number_at 8 (hex_bytes word) 0) otherwise WrongCookie

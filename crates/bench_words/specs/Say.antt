@@ -1,7 +1,7 @@
 -- What an answer says, as bytes, and where they are put.
 use Rattle.std.specs.Prelude.{ℕ, zero, suc, ◌+◌, ◌/◌, ◌%◌, min, ◌≡◌, [], ◌∷◌, ◌++◌, length, eqb, ltb}
 use Rattle.wire_read.specs.Wire.{Bytes}
-use Rattle.wire_read.specs.Tests.{if◌then◌else◌}
+use Rattle.wire_read.specs.Tests.{if◌then◌otherwise◌}
 use Rattle.wire_write.specs.Put.{paste}
 use Rattle.sequence_record.specs.declared.Verdict.{Verdict}
 use Rattle.sequence_record.specs.declared.Verdict.TheVariants.{Accepted, Refused}
@@ -15,12 +15,12 @@ Said buffer at text r after = (after ≡ paste buffer at text) × (r ≡ min (at
 
 -- the ASCII code of a digit below 16: `0` to `9`, then `a` to `f`
 abbrev pub hex_digit_ascii : (d : ℕ) → ℕ
-hex_digit_ascii d = if ltb d 10 then 48 + d else 87 + d
+hex_digit_ascii d = if ltb d 10 then 48 + d otherwise 87 + d
 
 -- a number in decimal, with no zero in front, of at most so many digits; as many as the number and one more are always enough
 unfoldable pub digits_text : (most n : ℕ) → Bytes
 digits_text zero n = []
-digits_text (suc most) n = if ltb n 10 then hex_digit_ascii n ∷ [] else digits_text most (n / 10) ++ (hex_digit_ascii (n % 10) ∷ [])
+digits_text (suc most) n = if ltb n 10 then hex_digit_ascii n ∷ [] otherwise digits_text most (n / 10) ++ (hex_digit_ascii (n % 10) ∷ [])
 
 abbrev pub decimal_text : (n : ℕ) → Bytes
 decimal_text n = digits_text (n + 1) n
@@ -39,7 +39,7 @@ hex_text (b ∷ s) = hex_byte_text b ++ hex_text s
 
 -- bytes as a word of a line: `-`, 45, for no bytes
 unfoldable pub word_text : (bytes : Bytes) → Bytes
-word_text bytes = if eqb (length bytes) 0 then 45 ∷ [] else hex_text bytes
+word_text bytes = if eqb (length bytes) 0 then 45 ∷ [] otherwise hex_text bytes
 
 -- `refused` and a number
 abbrev pub refused_text : (n : ℕ) → Bytes

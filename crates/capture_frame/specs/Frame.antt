@@ -2,7 +2,7 @@
 -- from the Ethernet header on, and the checks stand in their order. Checksums are not looked at.
 use Rattle.std.specs.Prelude.{ℕ, zero, suc, ◌+◌, ◌-◌, ◌*◌, ◌/◌, ◌%◌, List, [], ◌∷◌, Bool, not, ◌||◌, length, get_or, take, drop, ltb, eqb}
 use Rattle.wire_read.specs.Wire.{Bytes, number_at}
-use Rattle.wire_read.specs.Tests.{if◌then◌else◌}
+use Rattle.wire_read.specs.Tests.{if◌then◌otherwise◌}
 use Rattle.wire_read.specs.Answer.{Answer, done}
 use Rattle.capture_frame.specs.declared.Addresses.{Addresses}
 use Rattle.capture_frame.specs.declared.Ports.{Ports}
@@ -51,28 +51,28 @@ udp_length_at s at = number_at 2 s (at + 4)
 
 -- "the destination port decides if it is 500 or 4500, else the source port"
 unfoldable pub deciding_port : (ports : Ports) → ℕ
-deciding_port ports = if eqb ports.destination 500 || eqb ports.destination 4500 then ports.destination else ports.source
+deciding_port ports = if eqb ports.destination 500 || eqb ports.destination 4500 then ports.destination otherwise ports.source
 
 -- "500: the UDP data is a key exchange message; 4500: the UDP data goes to port4500"; "any other UDP ports"
 unfoldable pub by_port : (addresses : Addresses) (ports : Ports) (part : Part) → Frame
 by_port addresses ports part =
     if eqb (deciding_port ports) 500 then Message addresses part
-    else if eqb (deciding_port ports) 4500 then Datagram addresses part
-    else OtherPorts addresses ports
+    otherwise if eqb (deciding_port ports) 4500 then Datagram addresses part
+    otherwise OtherPorts addresses ports
 
 -- "protocol 17 with fewer than 8 bytes, or a UDP length below 8 or above what is left": cut short
 unfoldable pub udp : (addresses : Addresses) (s : Bytes) (packet : Part) → Frame
 udp addresses s packet =
     if ltb packet.length 8 || ltb (udp_length_at s packet.start) 8 || ltb packet.length (udp_length_at s packet.start) then CutShort
-    else by_port addresses (ports_at s packet.start) (record { start = packet.start + 8; length = udp_length_at s packet.start - 8 })
+    otherwise by_port addresses (ports_at s packet.start) (record { start = packet.start + 8; length = udp_length_at s packet.start - 8 })
 
 -- "protocol 51 is AH, 50 is ESP: the packet is what stands behind the IP header"; "any other protocol"
 unfoldable pub by_protocol : (protocol : ℕ) (addresses : Addresses) (s : Bytes) (packet : Part) → Frame
 by_protocol protocol addresses s packet =
     if eqb protocol 51 then Ah addresses packet
-    else if eqb protocol 50 then Esp addresses packet
-    else if eqb protocol 17 then udp addresses s packet
-    else OtherProtocol addresses protocol
+    otherwise if eqb protocol 50 then Esp addresses packet
+    otherwise if eqb protocol 17 then udp addresses s packet
+    otherwise OtherProtocol addresses protocol
 
 -- "version not 4, header length below 20, total length below header length (0 too)"
 unfoldable pub not_ipv4 : (s : Bytes) (at : ℕ) → Bool
@@ -86,10 +86,10 @@ fragmented s at = more_fragments_at s at || not (eqb (fragment_offset_at s at) 0
 unfoldable pub ipv4 : (s : Bytes) (at : ℕ) → Frame
 ipv4 s at =
     if ltb (length s) (at + 20) then CutShort
-    else if not_ipv4 s at then NotIpv4
-    else if ltb (length s) (at + total_length_at s at) then CutShort
-    else if fragmented s at then Fragment (addresses_at s at)
-    else by_protocol (protocol_at s at) (addresses_at s at) s (record { start = packet_start s at; length = packet_length s at })
+    otherwise if not_ipv4 s at then NotIpv4
+    otherwise if ltb (length s) (at + total_length_at s at) then CutShort
+    otherwise if fragmented s at then Fragment (addresses_at s at)
+    otherwise by_protocol (protocol_at s at) (addresses_at s at) s (record { start = packet_start s at; length = packet_length s at })
 
 -- ---- Ethernet: destination (6), source (6), EtherType (2), each VLAN tag 4 bytes between
 
@@ -99,17 +99,17 @@ is_tag ether_type = eqb ether_type 0x8100 || eqb ether_type 0x88a8
 
 -- "EtherType, behind at most two VLAN tags (.. a tag cut short: cut short), not 0800": tags may still come, and the EtherType is at this place
 unfoldable pub ether_type : (tags : ℕ) (s : Bytes) (at : ℕ) → Frame
-ether_type zero s at = if eqb (number_at 2 s at) 0x0800 then ipv4 s (at + 2) else NotIpv4
+ether_type zero s at = if eqb (number_at 2 s at) 0x0800 then ipv4 s (at + 2) otherwise NotIpv4
 ether_type (suc tags) s at =
-    if is_tag (number_at 2 s at) then (if ltb (length s) (at + 6) then CutShort else ether_type tags s (at + 4))
-    else if eqb (number_at 2 s at) 0x0800 then ipv4 s (at + 2)
-    else NotIpv4
+    if is_tag (number_at 2 s at) then (if ltb (length s) (at + 6) then CutShort otherwise ether_type tags s (at + 4))
+    otherwise if eqb (number_at 2 s at) 0x0800 then ipv4 s (at + 2)
+    otherwise NotIpv4
 
 -- "captured length below the original length (above it: the captured bytes count); fewer than 14 bytes": cut short
 unfoldable pub carried : (original : ℕ) (s : Bytes) → Frame
 carried original s =
     if ltb (length s) original || ltb (length s) 14 then CutShort
-    else ether_type 2 s 12
+    otherwise ether_type 2 s 12
 
 -- ---- what is handed on
 

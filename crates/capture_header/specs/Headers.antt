@@ -3,7 +3,7 @@
 -- seconds (4), microseconds (4), captured length (4), original length (4).
 use Rattle.std.specs.Prelude.{ℕ, zero, suc, ◌+◌, ◌*◌, ◌%◌, [], ◌∷◌, ◌||◌, ◌&&◌, not, length, get_or, ltb, eqb}
 use Rattle.wire_read.specs.Wire.{Bytes, number_at}
-use Rattle.wire_read.specs.Tests.{if◌then◌else◌}
+use Rattle.wire_read.specs.Tests.{if◌then◌otherwise◌}
 use Rattle.wire_read.specs.Answer.{Answer, done, refused}
 use Rattle.capture_header.specs.declared.Order.{Order}
 use Rattle.capture_header.specs.declared.Order.TheVariants.{Big, Little}
@@ -43,15 +43,15 @@ link_type order s = number_in order 4 s 20
 unfoldable pub in_order : (order : Order) (s : Bytes) → FileHeader
 in_order order s =
     if eqb (major_in order s) 2 && eqb (minor_in order s) 4 && eqb (link_type order s) 1 then Files.Read order
-    else Files.Refused 8201
+    otherwise Files.Refused 8201
 
 -- "magic a1b2c3d4 in either byte order"; "Fewer bytes or anything else: 8201"
 unfoldable pub file_header : (s : Bytes) → FileHeader
 file_header s =
     if ltb (length s) 24 then Files.Refused 8201
-    else if eqb (number_in Big 4 s 0) magic then in_order Big s
-    else if eqb (number_in Little 4 s 0) magic then in_order Little s
-    else Files.Refused 8201
+    otherwise if eqb (number_in Big 4 s 0) magic then in_order Big s
+    otherwise if eqb (number_in Little 4 s 0) magic then in_order Little s
+    otherwise Files.Refused 8201
 
 -- ---- a record's header
 
@@ -71,8 +71,8 @@ original_in order s = number_in order 4 s 12
 unfoldable pub record_header : (order : Order) (s : Bytes) → RecordHeader
 record_header order s =
     if ltb (length s) 16 then Records.CutShort
-    else if ltb 65535 (captured_in order s) then Records.Refused 8201
-    else Records.Read (seconds_in order s) (microseconds_in order s) (captured_in order s) (original_in order s)
+    otherwise if ltb 65535 (captured_in order s) then Records.Refused 8201
+    otherwise Records.Read (seconds_in order s) (microseconds_in order s) (captured_in order s) (original_in order s)
 
 -- ---- what a file that is refused is instead
 
@@ -86,18 +86,18 @@ pcapng = 0x0a0d0d0a
 unfoldable pub order_cause : (order : Order) (s : Bytes) → HeaderCause
 order_cause order s =
     if not (eqb (major_in order s) 2 && eqb (minor_in order s) 4) then Causes.Version (major_in order s) (minor_in order s)
-    else if eqb (link_type order s) 1 then Causes.Nothing
-    else if eqb (link_type order s % 65536) 1 then Causes.CheckSequences
-    else Causes.LinkType (link_type order s % 65536)
+    otherwise if eqb (link_type order s) 1 then Causes.Nothing
+    otherwise if eqb (link_type order s % 65536) 1 then Causes.CheckSequences
+    otherwise Causes.LinkType (link_type order s % 65536)
 
 unfoldable pub header_cause : (s : Bytes) → HeaderCause
 header_cause s =
     if ltb (length s) 24 then Causes.Short
-    else if eqb (number_in Big 4 s 0) pcapng then Causes.Pcapng
-    else if eqb (number_in Big 4 s 0) nanoseconds || eqb (number_in Little 4 s 0) nanoseconds then Causes.Nanoseconds
-    else if eqb (number_in Big 4 s 0) magic then order_cause Big s
-    else if eqb (number_in Little 4 s 0) magic then order_cause Little s
-    else Causes.NoCapture
+    otherwise if eqb (number_in Big 4 s 0) pcapng then Causes.Pcapng
+    otherwise if eqb (number_in Big 4 s 0) nanoseconds || eqb (number_in Little 4 s 0) nanoseconds then Causes.Nanoseconds
+    otherwise if eqb (number_in Big 4 s 0) magic then order_cause Big s
+    otherwise if eqb (number_in Little 4 s 0) magic then order_cause Little s
+    otherwise Causes.NoCapture
 
 -- ---- the paper's number and values for each case
 

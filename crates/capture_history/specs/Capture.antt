@@ -1,7 +1,7 @@
 -- A whole capture, record for record: its lines, the table after it, and the calls of the table that it is.
 use Rattle.std.specs.Prelude.{ℕ, ◌≡◌, List, [], ◌∷◌, ◌++◌, true, false, eqb}
 use Rattle.wire_read.specs.Wire.{Bytes}
-use Rattle.wire_read.specs.Tests.{if◌then◌else◌}
+use Rattle.wire_read.specs.Tests.{if◌then◌otherwise◌}
 use Rattle.wire_read.specs.Answer.{Answer}
 use Rattle.port4500.specs.declared.Datagram.{Datagram}
 use Rattle.port4500.specs.declared.Datagram.TheVariants as Datagrams
@@ -79,7 +79,7 @@ table_after t (r ∷ records) = table_after (listed t r.0 r.1).1 records
 -- the numbers that lines say were accepted of one key, the last first, behind those before
 abbrev pub accepted_line : (key : Key) (line : Listed) (before : List ℕ) → List ℕ
 accepted_line key (Packet addresses protocol spi number (Verdicts.Accepted rise)) before =
-    if same (record { destination = addresses.destination; protocol = protocol; spi = spi }) key then number ∷ before else before
+    if same (record { destination = addresses.destination; protocol = protocol; spi = spi }) key then number ∷ before otherwise before
 accepted_line key (Packet addresses protocol spi number (Verdicts.Refused n)) before = before
 accepted_line key (ShortPacket addresses protocol verdict) before = before
 accepted_line key CutShort before = before
@@ -126,7 +126,7 @@ packet_calls t destination protocol s =
     shows destination protocol true s
     ∷ (if is_eleven (packet t destination protocol true s).0
     then adds (key_of destination protocol s) ∷ after_adding (added t (key_of destination protocol s)).0 (shows destination protocol true s)
-    else [])
+    otherwise [])
 
 unfoldable pub calls_of : (t : Table) (to : ToTable) → List Call
 calls_of t nothing = []
@@ -144,8 +144,8 @@ after_calls t (c ∷ calls) = after_calls (answered t c).1 calls
 -- the answers to such calls that are verdicts, in the order of the calls, with later ones behind them: a packet's, unless it is 11, and an
 -- adding's where it is refused
 abbrev pub verdict_of : (c : Call) (a : Answer) (later : List Answer) → List Answer
-verdict_of (shows destination protocol integrity s) a later = if eqb a.number 11 then later else a ∷ later
-verdict_of (adds key) a later = if is_done a then later else a ∷ later
+verdict_of (shows destination protocol integrity s) a later = if eqb a.number 11 then later otherwise a ∷ later
+verdict_of (adds key) a later = if is_done a then later otherwise a ∷ later
 verdict_of (removes key) a later = later
 verdict_of (sends key) a later = later
 verdict_of (asks key) a later = later

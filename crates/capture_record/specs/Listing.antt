@@ -2,7 +2,7 @@
 -- The answer and the table after it.
 use Rattle.std.specs.Prelude.{ℕ, List, [], ◌∷◌, Bool, true, false, ◌&&◌, length, ltb, leb, eqb}
 use Rattle.wire_read.specs.Wire.{Bytes}
-use Rattle.wire_read.specs.Tests.{if◌then◌else◌}
+use Rattle.wire_read.specs.Tests.{if◌then◌otherwise◌}
 use Rattle.wire_read.specs.Answer.{Answer, done}
 use Rattle.port4500.specs.declared.Datagram.{Datagram}
 use Rattle.port4500.specs.declared.Datagram.TheVariants as Datagrams
@@ -37,13 +37,13 @@ esp_protocol = 3
 
 -- the least bytes that have an SPI and a number, and these where they stand
 abbrev pub least_bytes : (protocol : ℕ) → ℕ
-least_bytes protocol = if eqb protocol ah_protocol then 12 else 8
+least_bytes protocol = if eqb protocol ah_protocol then 12 otherwise 8
 
 abbrev pub spi_of : (protocol : ℕ) (s : Bytes) → ℕ
-spi_of protocol s = if eqb protocol ah_protocol then ah_spi s else esp_spi s
+spi_of protocol s = if eqb protocol ah_protocol then ah_spi s otherwise esp_spi s
 
 abbrev pub number_of : (protocol : ℕ) (s : Bytes) → ℕ
-number_of protocol s = if eqb protocol ah_protocol then ah_number s else esp_number s
+number_of protocol s = if eqb protocol ah_protocol then ah_number s otherwise esp_number s
 
 abbrev pub key_of : (destination protocol : ℕ) (s : Bytes) → Key
 key_of destination protocol s = record { destination = destination; protocol = protocol; spi = spi_of protocol s }
@@ -62,13 +62,13 @@ is_eleven (Verdicts.Accepted rise) = false
 unfoldable pub shown : (t : Table) (destination protocol : ℕ) (s : Bytes) → Verdict × Table
 shown t destination protocol s =
     if is_eleven (packet t destination protocol true s).0 then added_first (added t (key_of destination protocol s)) destination protocol s
-    else packet t destination protocol true s
+    otherwise packet t destination protocol true s
 
 -- "`AH refused 16` only where the packet has fewer than 12 bytes (ESP: 8); any other 16 shows SPI and number"
 unfoldable pub listed_packet : (addresses : Addresses) (protocol : ℕ) (s : Bytes) (verdict : Verdict) → Listed
 listed_packet addresses protocol s verdict =
     if ltb (length s) (least_bytes protocol) then ShortPacket addresses protocol verdict
-    else Packet addresses protocol (spi_of protocol s) (number_of protocol s) verdict
+    otherwise Packet addresses protocol (spi_of protocol s) (number_of protocol s) verdict
 
 unfoldable pub packet_listed : (t : Table) (addresses : Addresses) (protocol : ℕ) (s : Bytes) → Listed × Table
 packet_listed t addresses protocol s = (listed_packet addresses protocol s judged.0, judged.1)
@@ -87,7 +87,7 @@ read_listed addresses (Messages.Read exchange count) = Read addresses exchange c
 unfoldable pub message_listed : (addresses : Addresses) (m : Bytes) → Listed
 message_listed addresses m =
     if leb 28 (length m) && eqb (flags_of m) 1 then Enciphered addresses (exchange_of m) (message_id_of m)
-    else read_listed addresses (message m)
+    otherwise read_listed addresses (message m)
 
 -- "From port 4500: keepalive, a key exchange (as above), or ESP"
 unfoldable pub datagram_listed : (t : Table) (addresses : Addresses) (s : Bytes) (d : Datagram) → Listed × Table

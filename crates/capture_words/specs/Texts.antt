@@ -1,7 +1,7 @@
 -- What is printed of a record of a capture, document 02, "One", as bytes. Behind each text that is spelled in bytes stand its letters.
 use Rattle.std.specs.Prelude.{ℕ, zero, suc, ◌/◌, ◌%◌, [], ◌∷◌, ◌++◌, eqb, ltb}
 use Rattle.wire_read.specs.Wire.{Bytes}
-use Rattle.wire_read.specs.Tests.{if◌then◌else◌}
+use Rattle.wire_read.specs.Tests.{if◌then◌otherwise◌}
 use Rattle.message_chain.specs.declared.Payload.{Payload}
 use Rattle.message_chain.specs.Message.{payload_at}
 use Rattle.sa_fields.specs.declared.ProposalNumber.{ProposalNumber}
@@ -34,7 +34,7 @@ last_digits base (suc k) n = last_digits base k (n / base) ++ (hex_digit_ascii (
 
 -- "at least six digits behind the point (a field over 999999 as it is)"
 unfoldable pub six_digits : (n : ℕ) → Bytes
-six_digits n = if ltb n 1000000 then last_digits 10 6 n else decimal_text n
+six_digits n = if ltb n 1000000 then last_digits 10 6 n otherwise decimal_text n
 
 -- "SPI and message ID eight hex digits"
 abbrev pub hex_digits : (n : ℕ) → Bytes
@@ -109,7 +109,7 @@ message_refused_text addresses number = addressed_text addresses (32 ∷ []) ++ 
 unfoldable pub named_text : (addresses : Addresses) (protocol : ℕ) → Bytes
 named_text addresses protocol =
     if eqb protocol ah_protocol then addressed_text addresses (32 ∷ 65 ∷ 72 ∷ 32 ∷ [])  -- ` AH `
-    else addressed_text addresses (32 ∷ 69 ∷ 83 ∷ 80 ∷ 32 ∷ [])  -- ` ESP `
+    otherwise addressed_text addresses (32 ∷ 69 ∷ 83 ∷ 80 ∷ 32 ∷ [])  -- ` ESP `
 
 -- `SRC > DST AH refused 16`
 abbrev pub short_packet_text : (addresses : Addresses) (protocol : ℕ) (verdict : Verdict) → Bytes

@@ -9,7 +9,7 @@ use lib.Seq.{drop-drop}
 use lib.Dec.{ltb, leb, eqb}
 use borrow.Author.Tests.{lt-ltb, le-ltb, ne_eqb, eq-eqb}
 use Rattle.wire_read.specs.Wire.{number_at}
-use Rattle.wire_read.specs.Tests.{if◌then◌else◌}
+use Rattle.wire_read.specs.Tests.{if◌then◌otherwise◌}
 use Rattle.der.specs.Der.{tag_wrong, constructed, head_size, body_size, contents, size, filled, element}
 use Rattle.der.proofs.Laws.{element-fits, filled_none, filled-step}
 
@@ -60,12 +60,12 @@ module _ (s : List ℕ) (h b : ℕ) (t : Bool) (eh : h ≡ head_size s) (eb : b 
 
 -- one level, with the code's own levels - 1
 element-step : (levels : ℕ) (s : List ℕ) → (levels ≡ 0 → ⊥) →
-    element levels s ≡ (if constructed s && not (filled (element (levels - 1)) (contents s)) then 0 else size s)
+    element levels s ≡ (if constructed s && not (filled (element (levels - 1)) (contents s)) then 0 otherwise size s)
 unfolding element
 element-step zero s h = absurd (h refl)
 element-step (suc levels) s h = let i : suc levels - 1 ≡ levels = omega arith in rw i
 
-if_same : (b : Bool) (n : ℕ) → n ≡ (if b then n else n)
+if_same : (b : Bool) (n : ℕ) → n ≡ (if b then n otherwise n)
 if_same true n = refl
 if_same false n = refl
 

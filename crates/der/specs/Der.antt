@@ -1,7 +1,7 @@
 -- DER elements, document 01, "Identities". An element lies at the front of a list of bytes: its tag, its length, its contents.
 use Rattle.std.specs.Prelude.{ℕ, zero, suc, ◌+◌, ◌/◌, ◌%◌, Bool, not, ◌||◌, ◌&&◌, length, get_or, take, drop, ltb, leb, eqb}
 use Rattle.wire_read.specs.Wire.{Bytes, number_at}
-use Rattle.wire_read.specs.Tests.{if◌then◌else◌}
+use Rattle.wire_read.specs.Tests.{if◌then◌otherwise◌}
 
 abbrev pub tag : (s : Bytes) → ℕ
 tag s = get_or s 0 0
@@ -28,16 +28,16 @@ constructed s = eqb (tag s / 32 % 2) 1
 unfoldable pub head_size : (s : Bytes) → ℕ
 head_size s =
     if ltb (length_byte s) 0x80 then 2
-    else if eqb (length_byte s) 0x81 && leb 0x80 (one_byte_length s) then 3
-    else if eqb (length_byte s) 0x82 && leb 0x100 (two_byte_length s) then 4
-    else 0
+    otherwise if eqb (length_byte s) 0x81 && leb 0x80 (one_byte_length s) then 3
+    otherwise if eqb (length_byte s) 0x82 && leb 0x100 (two_byte_length s) then 4
+    otherwise 0
 
 -- the length, where it is in such a form
 unfoldable pub body_size : (s : Bytes) → ℕ
 body_size s =
     if ltb (length_byte s) 0x80 then length_byte s
-    else if eqb (length_byte s) 0x81 then one_byte_length s
-    else two_byte_length s
+    otherwise if eqb (length_byte s) 0x81 then one_byte_length s
+    otherwise two_byte_length s
 
 unfoldable pub contents : (s : Bytes) → Bytes
 contents s = take (body_size s) (drop (head_size s) s)
@@ -46,7 +46,7 @@ contents s = take (body_size s) (drop (head_size s) s)
 unfoldable pub size : (s : Bytes) → ℕ
 size s =
     if tag_wrong s || eqb (head_size s) 0 || ltb (length s) (head_size s + body_size s) then 0
-    else head_size s + body_size s
+    otherwise head_size s + body_size s
 
 -- "a list holds elements": s is elements and nothing else, at most k of them; element gives the size of the one at the front, 0 where none is
 unfoldable pub list : (element : Bytes → ℕ) (k : ℕ) (s : Bytes) → Bool
@@ -63,7 +63,7 @@ unfoldable pub element : (levels : ℕ) (s : Bytes) → ℕ
 element zero s = 0
 element (suc levels) s =
     if constructed s && not (filled (element levels) (contents s)) then 0
-    else size s
+    otherwise size s
 
 -- s is one element and nothing else, "depth at most 8 with the outermost at 1"
 unfoldable pub is_element : (s : Bytes) → Bool

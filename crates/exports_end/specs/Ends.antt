@@ -2,7 +2,7 @@
 -- any bytes are some end's.
 use Rattle.std.specs.Prelude.{ℕ, List, [], ◌∷◌, ◌++◌, get_or, drop, replicate, eqb}
 use Rattle.wire_read.specs.Wire.{Bytes, number_at}
-use Rattle.wire_read.specs.Tests.{if◌then◌else◌}
+use Rattle.wire_read.specs.Tests.{if◌then◌otherwise◌}
 use Rattle.wire_write.specs.Put.{bytes_of, paste}
 use Rattle.policy_choice.specs.declared.Transforms.{Transforms}
 use Rattle.policy_choice.specs.declared.Transforms.TheVariants.{One, Two}
@@ -29,17 +29,17 @@ state_number GivenUp = 4
 unfoldable pub state_of : (number : ℕ) → State
 state_of number =
     if eqb number 0 then Idle
-    else if eqb number 1 then Sent
-    else if eqb number 2 then Half
-    else if eqb number 3 then Open
-    else GivenUp
+    otherwise if eqb number 1 then Sent
+    otherwise if eqb number 2 then Half
+    otherwise if eqb number 3 then Open
+    otherwise GivenUp
 
 unfoldable pub role_number : (role : Role) → ℕ
 role_number Initiator = 0
 role_number Responder = 1
 
 unfoldable pub role_of : (number : ℕ) → Role
-role_of number = if eqb number 0 then Initiator else Responder
+role_of number = if eqb number 0 then Initiator otherwise Responder
 
 -- how many, the first, and the second or 0
 unfoldable pub transforms_values : (transforms : Transforms) → List ℕ
@@ -80,10 +80,10 @@ end_bytes end = progress_bytes end.progress ++ own_bytes end.own
 
 -- two where they say 2, else one
 unfoldable pub transforms_of : (s : Bytes) → Transforms
-transforms_of s = if eqb (get_or s 0 0) 2 then Two (record { 0 = get_or s 1 0 }) (record { 0 = get_or s 2 0 }) else One (record { 0 = get_or s 1 0 })
+transforms_of s = if eqb (get_or s 0 0) 2 then Two (record { 0 = get_or s 1 0 }) (record { 0 = get_or s 2 0 }) otherwise One (record { 0 = get_or s 1 0 })
 
 unfoldable pub spis_in : (s : Bytes) → Spis
-spis_in s = if eqb (get_or s 0 0) 2 then Both (number_at 4 s 1) (number_at 4 s 5) else Alone (number_at 4 s 1)
+spis_in s = if eqb (get_or s 0 0) 2 then Both (number_at 4 s 1) (number_at 4 s 5) otherwise Alone (number_at 4 s 1)
 
 unfoldable pub agreed_of : (s : Bytes) → Agreed
 agreed_of s = record {

@@ -1,7 +1,7 @@
 -- What the calls on a lent quick mode end leave.
 use Rattle.std.specs.Prelude.{ℕ, List, [], ◌∷◌, ◌++◌, Bool, true, false, length, eqb}
 use Rattle.wire_read.specs.Wire.{Bytes}
-use Rattle.wire_read.specs.Tests.{if◌then◌else◌}
+use Rattle.wire_read.specs.Tests.{if◌then◌otherwise◌}
 use Rattle.wire_read.specs.Answer.{Answer, done, refused}
 use Rattle.wire_write.specs.Put.{paste}
 use Rattle.quick_end.specs.declared.Role.{Role}
@@ -22,7 +22,7 @@ role_by false = Responder
 
 -- the number, and the lent end: a refusal leaves it as it was
 unfoldable pub fresh_called : (end : Bytes) (made : Made) → ℕ × Bytes
-fresh_called end made = (made.number, if eqb made.number 0 then paste end 0 (end_bytes made.end) else end)
+fresh_called end made = (made.number, if eqb made.number 0 then paste end 0 (end_bytes made.end) otherwise end)
 
 -- ---- a step
 
@@ -65,7 +65,7 @@ agreed_values agreed = agreed.set.0 ∷ transforms_values agreed.transforms ++ s
 
 -- nothing is agreed before a message was got
 unfoldable pub agreed_answer : (progress : Progress) → Answer
-agreed_answer progress = if eqb progress.gotsize 0 then refused 8195 else done (agreed_values progress.agreed)
+agreed_answer progress = if eqb progress.gotsize 0 then refused 8195 otherwise done (agreed_values progress.agreed)
 
 -- ---- a nonce
 

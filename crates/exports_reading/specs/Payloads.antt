@@ -1,7 +1,7 @@
 -- A payload of a message, counted from 0: its type, start and length.
 use Rattle.std.specs.Prelude.{ℕ, [], ◌∷◌, leb}
 use Rattle.wire_read.specs.Wire.{Bytes}
-use Rattle.wire_read.specs.Tests.{if◌then◌else◌}
+use Rattle.wire_read.specs.Tests.{if◌then◌otherwise◌}
 use Rattle.wire_read.specs.Answer.{Answer, done, refused}
 use Rattle.message_chain.specs.Message.{message, payload_at}
 use Rattle.message_chain.specs.declared.Message.{Message}
@@ -12,7 +12,7 @@ unfoldable pub read_payload : (place : ℕ) (m : Bytes) (read : Message) → Ans
 read_payload place m (Refused number) = refused number
 read_payload place m (Read exchange count) =
     if leb count place then refused 16
-    else done ((payload_at place m).payloadtype ∷ (payload_at place m).start ∷ (payload_at place m).length ∷ [])
+    otherwise done ((payload_at place m).payloadtype ∷ (payload_at place m).start ∷ (payload_at place m).length ∷ [])
 
 unfoldable pub payload_answer : (place : ℕ) (m : Bytes) → Answer
 payload_answer place m = read_payload place m (message m)

@@ -1,7 +1,7 @@
 -- What stands at places of a message's offer, by number and values.
 use Rattle.std.specs.Prelude.{ℕ, List, [], ◌∷◌, not}
 use Rattle.wire_read.specs.Wire.{Bytes}
-use Rattle.wire_read.specs.Tests.{if◌then◌else◌}
+use Rattle.wire_read.specs.Tests.{if◌then◌otherwise◌}
 use Rattle.wire_read.specs.Answer.{Answer, done, refused}
 use Rattle.message_chain.specs.Message.{message}
 use Rattle.sa_fields.specs.Fields.{proposal_number, protocol, transform_number}
@@ -31,7 +31,7 @@ found_values s p t = 2 ∷ (proposal_number (proposal 0 s)).0 ∷ protocol p ∷
 unfoldable pub place_values : (body : Bytes) (at : Places) → List ℕ
 place_values body at =
     if not (is_place body at) then 1 ∷ []
-    else found_values (set_at body at) (proposal_at body at) (transform_at body at)
+    otherwise found_values (set_at body at) (proposal_at body at) (transform_at body at)
 
 -- of an offer that was read so: the message's refusal, or 16 where it has no SA payload
 unfoldable pub offer_place : (m : Bytes) (at : Places) (offer : Offer) → Answer

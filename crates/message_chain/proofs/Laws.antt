@@ -11,7 +11,7 @@ use lib.Seq.{get_or-drop, drop-drop, drop-length}
 use lib.Dec.{eqb}
 use borrow.Author.Tests.{eqb-true, eqb-false, not-true, not-false}
 use Rattle.wire_read.specs.Wire.{number_at, next_field, length_field}
-use Rattle.wire_read.specs.Tests.{if◌then◌else◌}
+use Rattle.wire_read.specs.Tests.{if◌then◌otherwise◌}
 use Rattle.wire_read.proofs.Tests.{never}
 use Rattle.wire_read.proofs.Laws.{number-drop}
 use Rattle.sa_proposals.specs.Proposals.{offer_code}
@@ -89,13 +89,13 @@ same : {ps qs : List Payload} → payloads ps ≡ payloads qs → ps ≡ qs
 same e = cc
 
 -- by which of two readings a test picked
-by-pick : {A : Type 0} (t : Bool) (x y r : Reading) → (if t then x else y) ≡ r → (t ≡ true → x ≡ r → A) → (t ≡ false → y ≡ r → A) → A
+by-pick : {A : Type 0} (t : Bool) (x y r : Reading) → (if t then x otherwise y) ≡ r → (t ≡ true → x ≡ r → A) → (t ≡ false → y ≡ r → A) → A
 by-pick true x y r e f g = f refl e
 by-pick false x y r e f g = g refl e
 
 -- what may follow a payload: the next, a rest that is refused, or the end
 by_end : {A : Type 0} (more wrong : Bool) (next : Reading) (number : ℕ) (qs : List Payload) →
-    (if more then next else if wrong then refused number else payloads []) ≡ payloads qs → (next ≡ payloads qs → A) → (qs ≡ [] → A) → A
+    (if more then next otherwise if wrong then refused number otherwise payloads []) ≡ payloads qs → (next ≡ payloads qs → A) → (qs ≡ [] → A) → A
 by_end true wrong next number qs e f g = f e
 by_end false true next number qs e f g = nothing number qs e
 by_end false false next number qs e f g = g (sym (same e))
@@ -123,8 +123,8 @@ module _ (left exchange flags : ℕ) (m : List ℕ)
 
   next-found : (qs : List Payload) →
       (if not (eqb (get_or here 0 0) 0) then following
-      else if not (eqb (rest_code flags rest) 0) then refused (rest_code flags rest)
-      else payloads []) ≡ payloads qs → Found exchange left m (get_or here 0 0) (start + size) qs
+      otherwise if not (eqb (rest_code flags rest) 0) then refused (rest_code flags rest)
+      otherwise payloads []) ≡ payloads qs → Found exchange left m (get_or here 0 0) (start + size) qs
   next-found qs e =
       by_end (not (eqb (get_or here 0 0) 0)) (not (eqb (rest_code flags rest) 0)) following (rest_code flags rest) qs e
       (λ v. again (offered || eqb type 1) (get_or here 0 0) (start + size) qs (omega (arith, fits, length-drop start m)) (rw drop-drop at v))
@@ -205,13 +205,13 @@ unfolding in_front number_of
 front_some p (refused number) h = h
 front_some p (payloads ps) h = h
 
-pick_some : (wrong : Bool) (number : ℕ) (r : Reading) → (wrong ≡ true → 0 < number) → 0 < number_of r → 0 < number_of (if wrong then refused number else r)
+pick_some : (wrong : Bool) (number : ℕ) (r : Reading) → (wrong ≡ true → 0 < number) → 0 < number_of r → 0 < number_of (if wrong then refused number otherwise r)
 unfolding number_of
 pick_some true number r f h = f refl
 pick_some false number r f h = h
 
 end-some : (more wrong : Bool) (next : Reading) (number : ℕ) → 0 < number_of next → (wrong ≡ true → 0 < number) →
-    0 < number_of (if more then next else if wrong then refused number else payloads [])
+    0 < number_of (if more then next otherwise if wrong then refused number otherwise payloads [])
 unfolding number_of
 end-some true wrong next number h f = h
 end-some false true next number h f = f refl

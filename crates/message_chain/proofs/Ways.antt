@@ -9,7 +9,7 @@ use lib.ListN.{length, get_or, drop}
 use lib.Dec.{eqb}
 use borrow.Author.Tests.{ne_eqb}
 use Rattle.wire_read.specs.Wire.{number_at}
-use Rattle.wire_read.specs.Tests.{if◌then◌else◌}
+use Rattle.wire_read.specs.Tests.{if◌then◌otherwise◌}
 use Rattle.message_header.specs.Header.{header_code}
 use Rattle.message_payload.specs.Payloads.{payload_code, rest_code}
 use Rattle.message_chain.proofs.Laws.{count-more}
@@ -21,7 +21,7 @@ use Rattle.message_chain.specs.declared.Message.TheVariants.{Refused, Read}
 -- ---- the chain
 
 count_if : (exchange n : ℕ) (t : Bool) (r q : Reading) →
-    exchange_and_count exchange n (if t then r else q) ≡ (if t then exchange_and_count exchange n r else exchange_and_count exchange n q)
+    exchange_and_count exchange n (if t then r otherwise q) ≡ (if t then exchange_and_count exchange n r otherwise exchange_and_count exchange n q)
 count_if exchange n true r q = refl
 count_if exchange n false r q = refl
 
@@ -30,11 +30,11 @@ module _ (exchange flags : ℕ) where
   chain-step : (n left : ℕ) (offered : Bool) (type start : ℕ) (s : List ℕ) → (left ≡ 0 → ⊥) →
       exchange_and_count exchange n (chain left exchange flags offered type start s)
       ≡ (if not (eqb (payload_code exchange offered type s) 0) then Refused (payload_code exchange offered type s)
-      else if not (eqb (get_or s 0 0) 0)
+      otherwise if not (eqb (get_or s 0 0) 0)
       then exchange_and_count exchange (n + 1)
       (chain (left - 1) exchange flags (offered || eqb type 1) (get_or s 0 0) (start + number_at 2 s 2) (drop (number_at 2 s 2) s))
-      else if not (eqb (rest_code flags (drop (number_at 2 s 2) s)) 0) then Refused (rest_code flags (drop (number_at 2 s 2) s))
-      else Read exchange (n + 1))
+      otherwise if not (eqb (rest_code flags (drop (number_at 2 s 2) s)) 0) then Refused (rest_code flags (drop (number_at 2 s 2) s))
+      otherwise Read exchange (n + 1))
   unfolding chain exchange_and_count
   chain-step n zero offered type start s h = absurd (h refl)
   chain-step n (suc left) offered type start s h =

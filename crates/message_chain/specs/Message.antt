@@ -1,7 +1,7 @@
 -- The reading of a message, document 01: "The reading gives exchange, count, and type, start and length of each payload."
 use Rattle.std.specs.Prelude.{ℕ, zero, suc, ◌+◌, List, [], ◌∷◌, Bool, false, not, ◌||◌, length, get_or, drop, eqb}
 use Rattle.wire_read.specs.Wire.{Bytes, next_field, length_field, next_at, length_at}
-use Rattle.wire_read.specs.Tests.{if◌then◌else◌}
+use Rattle.wire_read.specs.Tests.{if◌then◌otherwise◌}
 use Rattle.wire_read.specs.Answer.{Answer, done}
 use Rattle.wire_read.specs.Answer as Answers
 use Rattle.message_header.specs.Header.{exchange_of, flags_of, first_payload, header_code}
@@ -33,15 +33,15 @@ unfoldable pub chain : (left exchange flags : ℕ) (offered : Bool) (payloadtype
 chain zero exchange flags offered payloadtype start s = refused 16
 chain (suc left) exchange flags offered payloadtype start s =
     if not (eqb (payload_code exchange offered payloadtype s) 0) then refused (payload_code exchange offered payloadtype s)
-    else in_front (record { payloadtype = payloadtype; start = start; length = length_field s })
+    otherwise in_front (record { payloadtype = payloadtype; start = start; length = length_field s })
     (if not (eqb (next_field s) 0) then chain left exchange flags (offered || eqb payloadtype 1) (next_field s) (start + length_field s) (drop (length_field s) s)
-    else if not (eqb (rest_code flags (drop (length_field s) s)) 0) then refused (rest_code flags (drop (length_field s) s))
-    else payloads [])
+    otherwise if not (eqb (rest_code flags (drop (length_field s) s)) 0) then refused (rest_code flags (drop (length_field s) s))
+    otherwise payloads [])
 
 unfoldable pub reading : (m : Bytes) → Reading
 reading m =
     if not (eqb (header_code m) 0) then refused (header_code m)
-    else chain 32 (exchange_of m) (flags_of m) false (first_payload m) 28 (drop 28 m)
+    otherwise chain 32 (exchange_of m) (flags_of m) false (first_payload m) 28 (drop 28 m)
 
 -- what is answered: exchange, and how many payloads; so many were found before this part of the chain, none before the whole
 unfoldable pub exchange_and_count : (exchange before : ℕ) (reading : Reading) → Message

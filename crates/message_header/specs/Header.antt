@@ -2,7 +2,7 @@
 -- exchange (1), flags (1), message ID (4), length (4).
 use Rattle.std.specs.Prelude.{ℕ, ◌/◌, ◌%◌, Bool, not, ◌||◌, ◌&&◌, length, get_or, take, drop, ltb, eqb}
 use Rattle.wire_read.specs.Wire.{Bytes, Code, number_at, all_zero}
-use Rattle.wire_read.specs.Tests.{if◌then◌else◌}
+use Rattle.wire_read.specs.Tests.{if◌then◌otherwise◌}
 
 abbrev pub exchange_of : (m : Bytes) → ℕ
 exchange_of m = get_or m 18 0
@@ -72,13 +72,13 @@ no_payload m = eqb (first_payload m) 0
 unfoldable pub header_code : (m : Bytes) → Code
 header_code m =
     if length_wrong m then 30
-    else if major_wrong m then 5
-    else if minor_wrong m then 6
-    else if exchange_refused m then 29
-    else if exchange_unknown m then 7
-    else if flags_wrong m then 8
-    else if cookie_zero m then 4
-    else if message_id_wrong m then 9
-    else if flagged_length_wrong m then 30
-    else if no_payload m then 16
-    else 0
+    otherwise if major_wrong m then 5
+    otherwise if minor_wrong m then 6
+    otherwise if exchange_refused m then 29
+    otherwise if exchange_unknown m then 7
+    otherwise if flags_wrong m then 8
+    otherwise if cookie_zero m then 4
+    otherwise if message_id_wrong m then 9
+    otherwise if flagged_length_wrong m then 30
+    otherwise if no_payload m then 16
+    otherwise 0

@@ -1,7 +1,7 @@
 -- The policy book, document 01, "Policy book and choice": a count byte, main lines, a count byte, quick lines.
 use Rattle.std.specs.Prelude.{ℕ, zero, suc, [], ◌∷◌, Bool, true, ◌&&◌, length, leb, eqb}
 use Rattle.wire_read.specs.Wire.{Bytes}
-use Rattle.wire_read.specs.Tests.{if◌then◌else◌}
+use Rattle.wire_read.specs.Tests.{if◌then◌otherwise◌}
 use Rattle.wire_read.specs.Answer.{Answer, done, refused}
 use Rattle.policy_lines.specs.Lines.{main_count, quick_count, book_size, main_seconds, quick_protocols, quick_mode, quick_seconds}
 use Rattle.policy_book.specs.declared.Book.{Book}
@@ -34,7 +34,7 @@ book_in_front s =
 
 -- "Anything else, and bytes left over .. : 8193"
 unfoldable pub book_read : (book : Bytes) → Book
-book_read book = if book_in_front book && eqb (book_size book) (length book) then Lawful (main_count book) (quick_count book) else Refused 8193
+book_read book = if book_in_front book && eqb (book_size book) (length book) then Lawful (main_count book) (quick_count book) otherwise Refused 8193
 
 -- the paper's number and values for each case
 unfoldable pub book_answer : (read : Book) → Answer

@@ -7,7 +7,7 @@ use native.Mathlib.Omega.{arith}
 use lib.ListN.{length, take, drop}
 use lib.Dec.{ltb, leb, eqb}
 use borrow.Author.Tests.{eq-eqb, ne_eqb, lt-ltb, le-ltb, not-true, not-false}
-use Rattle.wire_read.specs.Tests.{if◌then◌else◌}
+use Rattle.wire_read.specs.Tests.{if◌then◌otherwise◌}
 use Rattle.sa_attribute.specs.Attributes.{attribute_type, attribute_size, after_attribute, attribute, value}
 use Rattle.sa_fields.specs.Fields.{transform_id, attributes_of}
 use Rattle.policy_lines.specs.Lines.{place, main_seconds, quick_protocols, quick_mode, quick_seconds}
@@ -237,8 +237,8 @@ module _ (w : Wish) (s : List ℕ) (t : ℕ) (et : t ≡ attribute_type s) where
 surplus-step : (left : ℕ) (w : Wish) (s : List ℕ) → (left ≡ 0 → ⊥) →
     first_surplus left w s
     ≡ (if ltb (length s) 4 then []
-    else if is_wanted w s then first_surplus (left - 1) w (after_attribute s)
-    else take (attribute_size s) s)
+    otherwise if is_wanted w s then first_surplus (left - 1) w (after_attribute s)
+    otherwise take (attribute_size s) s)
 unfolding first_surplus
 surplus-step zero w s h = absurd (h refl)
 surplus-step (suc left) w s h = let i : suc left - 1 ≡ left = omega arith in rw i

@@ -3,7 +3,7 @@
 -- attribute, a lifetime out of bounds". By the tests of Suits.antt, so that the two cannot part.
 use Rattle.std.specs.Prelude.{ℕ, zero, suc, ◌+◌, List, [], ◌∷◌, Bool, false, not, ◌||◌, ◌&&◌, length, take, ltb, leb, eqb}
 use Rattle.wire_read.specs.Wire.{Bytes}
-use Rattle.wire_read.specs.Tests.{if◌then◌else◌}
+use Rattle.wire_read.specs.Tests.{if◌then◌otherwise◌}
 use Rattle.wire_read.specs.Answer.{Answer, done}
 use Rattle.policy_lines.specs.Lines.{main_seconds, quick_protocols, quick_mode, quick_seconds}
 use Rattle.sa_attribute.specs.Attributes.{attribute_type, attribute_size, after_attribute, attribute, value}
@@ -22,7 +22,7 @@ use Rattle.policy_cause.specs.declared.PairCause.TheVariants as pairs
 unfoldable pub wish_of : (exchange i : ℕ) (book : Bytes) (protocol : ℕ) → Wish
 wish_of exchange i book protocol =
     if eqb exchange 2 then record { id = 1; lifetype = 11; mode = 0; five = false; longest = main_seconds i book }
-    else record {
+    otherwise record {
       id = quick_id protocol;
       lifetype = 1;
       mode = quick_mode i book;
@@ -36,10 +36,10 @@ abbrev pub main_wanted : List (ℕ × ℕ)
 main_wanted = (1, 129) ∷ (2, 20) ∷ (3, 10) ∷ (20, 2) ∷ (11, 1) ∷ []
 
 abbrev pub quick_wanted : (mode : ℕ) (five : Bool) → List (ℕ × ℕ)
-quick_wanted mode five = (4, mode) ∷ (1, 1) ∷ (if five then (5, 20) ∷ [] else [])
+quick_wanted mode five = (4, mode) ∷ (1, 1) ∷ (if five then (5, 20) ∷ [] otherwise [])
 
 unfoldable pub wanted : (w : Wish) → List (ℕ × ℕ)
-wanted w = if eqb w.lifetype 11 then main_wanted else quick_wanted w.mode w.five
+wanted w = if eqb w.lifetype 11 then main_wanted otherwise quick_wanted w.mode w.five
 
 -- how many these are, with the duration behind the life type
 unfoldable pub wanted_count : (w : Wish) → ℕ
@@ -65,15 +65,15 @@ first_cause cause (a ∷ wanted) = cause a or_else first_cause cause wanted
 
 -- "the ID"
 unfoldable pub id_cause : (w : Wish) (t : Bytes) → Cause
-id_cause w t = if eqb (transform_id t) w.id then Suits else Id (transform_id t) w.id
+id_cause w t = if eqb (transform_id t) w.id then Suits otherwise Id (transform_id t) w.id
 
 -- "a missing attribute": it is not there; of the life type, no pair with seconds is
 unfoldable pub is_there : (lifetype attributetype : ℕ) (attributes : Bytes) → Bool
 is_there lifetype attributetype attributes =
-    if eqb attributetype lifetype then leb 4 (length (seconds_of lifetype attributes)) else present attributetype attributes
+    if eqb attributetype lifetype then leb 4 (length (seconds_of lifetype attributes)) otherwise present attributetype attributes
 
 unfoldable pub missing_one : (lifetype attributetype : ℕ) (attributes : Bytes) → Cause
-missing_one lifetype attributetype attributes = if is_there lifetype attributetype attributes then Suits else Missing attributetype
+missing_one lifetype attributetype attributes = if is_there lifetype attributetype attributes then Suits otherwise Missing attributetype
 
 unfoldable pub missing_cause : (lifetype : ℕ) (wanted : List (ℕ × ℕ)) (attributes : Bytes) → Cause
 missing_cause lifetype wanted attributes = first_cause (λ a. missing_one lifetype a.0 attributes) wanted
@@ -82,7 +82,7 @@ missing_cause lifetype wanted attributes = first_cause (λ a. missing_one lifety
 unfoldable pub value_one : (lifetype attributetype wanted : ℕ) (attributes : Bytes) → Cause
 value_one lifetype attributetype wanted attributes =
     if eqb attributetype lifetype || value_is attributetype wanted attributes then Suits
-    else Value attributetype (value (attribute attributetype attributes)) wanted
+    otherwise Value attributetype (value (attribute attributetype attributes)) wanted
 
 unfoldable pub value_cause : (lifetype : ℕ) (wanted : List (ℕ × ℕ)) (attributes : Bytes) → Cause
 value_cause lifetype wanted attributes = first_cause (λ a. value_one lifetype a.0 a.1 attributes) wanted
@@ -96,29 +96,29 @@ type_wanted attributetype (a ∷ wanted) = eqb attributetype a.0 || type_wanted 
 unfoldable pub is_wanted : (w : Wish) (s : Bytes) → Bool
 is_wanted w s =
     if eqb (attribute_type s) w.lifetype then eqb (value s) 1 || eqb (value s) 2
-    else eqb (attribute_type s) (w.lifetype + 1) || type_wanted (attribute_type s) (wanted w)
+    otherwise eqb (attribute_type s) (w.lifetype + 1) || type_wanted (attribute_type s) (wanted w)
 
 -- the first of the first k attributes of s that is not, no bytes where there is none
 unfoldable pub first_surplus : (k : ℕ) (w : Wish) (s : Bytes) → Bytes
 first_surplus zero w s = []
 first_surplus (suc k) w s =
     if ltb (length s) 4 then []
-    else if is_wanted w s then first_surplus k w (after_attribute s)
-    else take (attribute_size s) s
+    otherwise if is_wanted w s then first_surplus k w (after_attribute s)
+    otherwise take (attribute_size s) s
 
 unfoldable pub surplus_cause : (w : Wish) (attributes : Bytes) → Cause
 surplus_cause w attributes =
     if nothing_surplus (wanted_count w) w.lifetype attributes then Suits
-    else Surplus (attribute_type (first_surplus 16 w attributes)) (value (first_surplus 16 w attributes))
+    otherwise Surplus (attribute_type (first_surplus 16 w attributes)) (value (first_surplus 16 w attributes))
 
 -- "a lifetime out of bounds"
 unfoldable pub seconds_cause : (w : Wish) (attributes : Bytes) → Cause
 seconds_cause w attributes =
     if seconds_within w.lifetype w.longest attributes then Suits
-    else Seconds (value (seconds_of w.lifetype attributes)) w.longest
+    otherwise Seconds (value (seconds_of w.lifetype attributes)) w.longest
 
 unfoldable pub kilobytes_cause : (w : Wish) (attributes : Bytes) → Cause
-kilobytes_cause w attributes = if kilobytes_some w.lifetype attributes then Suits else Kilobytes
+kilobytes_cause w attributes = if kilobytes_some w.lifetype attributes then Suits otherwise Kilobytes
 
 -- of attributes, and of a transform
 unfoldable pub attributes_cause : (w : Wish) (attributes : Bytes) → Cause
@@ -142,8 +142,8 @@ transform_cause exchange i book protocol t = wish_cause (wish_of exchange i book
 unfoldable pub pair_cause : (exchange i : ℕ) (book set : Bytes) → PairCause
 pair_cause exchange i book set =
     if set_suits exchange i book set then pairs.Suits
-    else if protocols_suit exchange i book set then pairs.Transforms
-    else pairs.Protocols
+    otherwise if protocols_suit exchange i book set then pairs.Transforms
+    otherwise pairs.Protocols
 
 -- ---- what the answers say, by number and values
 

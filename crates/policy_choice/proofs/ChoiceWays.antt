@@ -7,7 +7,7 @@ use native.Mathlib.Omega.{arith}
 use lib.ListN.{length, get_or, take, drop}
 use lib.Dec.{eqb}
 use borrow.Author.Tests.{eq-eqb, ne_eqb, leb-false}
-use Rattle.wire_read.specs.Tests.{if◌then◌else◌}
+use Rattle.wire_read.specs.Tests.{if◌then◌otherwise◌}
 use Rattle.wire_read.proofs.Tests.{never}
 use Rattle.message_chain.specs.Message.{message, payload_at}
 use Rattle.message_chain.specs.declared.Message.{Message}
@@ -45,7 +45,7 @@ module _ (exchange : ℕ) (book : List ℕ) (n : ℕ) where
   count-quick h e = rw (ne_eqb exchange 2 h) e
 
 line_step : (n : ℕ) (last line : LineNumber) (exchange : ℕ) (book s : List ℕ) → (n ≡ 0 → ⊥) → line ≡ line_at last.0 →
-    line_from n last exchange book s ≡ (if set_suits exchange (place line) book s then line else line_from (n - 1) line exchange book s)
+    line_from n last exchange book s ≡ (if set_suits exchange (place line) book s then line otherwise line_from (n - 1) line exchange book s)
 unfolding line_from
 line_step zero last line exchange book s h el = absurd (h refl)
 line_step (suc n) last line exchange book s h el =
@@ -104,7 +104,7 @@ set-chosen exchange line book s p number transforms ep en et = rw (← ep, ← e
 
 set-step : (n k exchange : ℕ) (book body : List ℕ) → (n ≡ 0 → ⊥) →
     set_from n k exchange book body ≡ (if eqb (first_line exchange book (set k body)).0 0 then set_from (n - 1) (k + 1) exchange book body
-    else chosen exchange (first_line exchange book (set k body)) book (set k body))
+    otherwise chosen exchange (first_line exchange book (set k body)) book (set k body))
 unfolding set_from
 set-step zero k exchange book body h = absurd (h refl)
 set-step (suc n) k exchange book body h = let e : suc n - 1 ≡ n = omega arith in rw e
@@ -132,7 +132,7 @@ pub body-taken : (k : ℕ) (m behind own r : List ℕ) (p : Payload) → p ≡ p
 unfolding body_at
 body-taken k m behind own r p ep eb eo er = rw (← ep, ← eb, ← eo) er
 
-sa_step : (n k : ℕ) (m : List ℕ) → (n ≡ 0 → ⊥) → sa_from n k m ≡ (if eqb (payload_at k m).payloadtype 1 then body_at k m else sa_from (n - 1) (k + 1) m)
+sa_step : (n k : ℕ) (m : List ℕ) → (n ≡ 0 → ⊥) → sa_from n k m ≡ (if eqb (payload_at k m).payloadtype 1 then body_at k m otherwise sa_from (n - 1) (k + 1) m)
 unfolding sa_from
 sa_step zero k m h = absurd (h refl)
 sa_step (suc n) k m h = let e : suc n - 1 ≡ n = omega arith in rw e
@@ -155,7 +155,7 @@ module _ (n k : ℕ) (m r : List ℕ) where
 -- ---- the choice
 
 -- a book has one refusal
-book-number : (lawful : Bool) (main quick number : ℕ) → (if lawful then books.Lawful main quick else books.Refused 8193) ≡ books.Refused number → number ≡ 8193
+book-number : (lawful : Bool) (main quick number : ℕ) → (if lawful then books.Lawful main quick otherwise books.Refused 8193) ≡ books.Refused number → number ≡ 8193
 book-number true main quick number h = never (cc)
 book-number false main quick number h = cc
 

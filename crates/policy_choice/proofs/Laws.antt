@@ -6,7 +6,7 @@ use mathlib.Core.Bool.{true, false}
 use native.Mathlib.Omega.{arith}
 use lib.Dec.{eqb, leb}
 use borrow.Author.Tests.{ne_eqb, leb-true, leb-false}
-use Rattle.wire_read.specs.Tests.{if◌then◌else◌}
+use Rattle.wire_read.specs.Tests.{if◌then◌otherwise◌}
 use Rattle.wire_read.proofs.Tests.{never, clash, by_test}
 use Rattle.sa_proposals.specs.Proposals.{offer_code}
 use Rattle.sa_sets.specs.Sets.{set, set_count}
@@ -62,7 +62,7 @@ module _ (exchange : ℕ) (book body : List ℕ) where
 
   step : (n k : ℕ) {line : ℕ} (r : Choice) → First (λ i. set_suits exchange i book (set k body)) (line_count exchange book) 0 line →
       Choosing exchange book body n (k + 1) r →
-      Choosing exchange book body (suc n) k (if eqb line 0 then r else chosen exchange (record { 0 = line }) book (set k body))
+      Choosing exchange book body (suc n) k (if eqb line 0 then r otherwise chosen exchange (record { 0 = line }) book (set k body))
   step n k r (none f) c = goes_on n k (λ i h. f i (omega arith) (omega arith)) c
   step n k r (here i h l t f) c =
       rw (ne_eqb (i + 1) 0 (λ e. omega arith))

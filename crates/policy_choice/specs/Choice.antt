@@ -2,7 +2,7 @@
 -- payload (16), then 14."
 use Rattle.std.specs.Prelude.{ℕ, zero, suc, ◌+◌, ◌-◌, ◌<◌, [], ◌∷◌, length, take, drop, eqb}
 use Rattle.wire_read.specs.Wire.{Bytes}
-use Rattle.wire_read.specs.Tests.{if◌then◌else◌}
+use Rattle.wire_read.specs.Tests.{if◌then◌otherwise◌}
 use Rattle.wire_read.specs.Answer.{Answer, done, refused}
 use Rattle.message_chain.specs.Message.{message, payload_at}
 use Rattle.message_chain.specs.declared.Message.{Message}
@@ -25,7 +25,7 @@ use Rattle.policy_choice.specs.declared.Choice.TheVariants.{Refused, Chosen}
 
 -- how many lines the book has for an exchange
 unfoldable pub line_count : (exchange : ℕ) (book : Bytes) → ℕ
-line_count exchange book = if eqb exchange 2 then main_count book else quick_count book
+line_count exchange book = if eqb exchange 2 then main_count book otherwise quick_count book
 
 -- "first line" that the set s suits, of the n lines behind the last that was asked, whose number is the place of the next; line 0 where
 -- there is none
@@ -33,7 +33,7 @@ unfoldable pub line_from : (n : ℕ) (last : LineNumber) (exchange : ℕ) (book 
 line_from zero last exchange book s = record { 0 = 0 }
 line_from (suc n) last exchange book s =
     if set_suits exchange last.0 book s then line_at last.0
-    else line_from n (line_at last.0) exchange book s
+    otherwise line_from n (line_at last.0) exchange book s
 
 unfoldable pub first_line : (exchange : ℕ) (book s : Bytes) → LineNumber
 first_line exchange book s = line_from (line_count exchange book) (record { 0 = 0 }) exchange book s
@@ -49,7 +49,7 @@ lowest_number exchange i book p = number_of (lowest exchange i book p) p
 unfoldable pub transforms_of : (exchange i : ℕ) (book s : Bytes) → Transforms
 transforms_of exchange i book s =
     if eqb (proposal_count s) 1 then One (lowest_number exchange i book (proposal 0 s))
-    else Two (lowest_number exchange i book (proposal 0 s)) (lowest_number exchange i book (proposal 1 s))
+    otherwise Two (lowest_number exchange i book (proposal 0 s)) (lowest_number exchange i book (proposal 1 s))
 
 -- what is answered where the set s is chosen by this line
 unfoldable pub chosen : (exchange : ℕ) (line : LineNumber) (book s : Bytes) → Choice
@@ -60,7 +60,7 @@ unfoldable pub set_from : (n k exchange : ℕ) (book body : Bytes) → Choice
 set_from zero k exchange book body = Refused 14
 set_from (suc n) k exchange book body =
     if eqb (first_line exchange book (set k body)).0 0 then set_from n (k + 1) exchange book body
-    else chosen exchange (first_line exchange book (set k body)) book (set k body)
+    otherwise chosen exchange (first_line exchange book (set k body)) book (set k body)
 
 unfoldable pub choose_from : (exchange : ℕ) (book body : Bytes) → Choice
 choose_from exchange book body = set_from (set_count body) 0 exchange book body
@@ -72,7 +72,7 @@ body_at k m = drop 4 (take (payload_at k m).length (drop (payload_at k m).start 
 -- the body of the first SA payload among the n payloads from k on; no bytes where there is none
 unfoldable pub sa_from : (n k : ℕ) (m : Bytes) → Bytes
 sa_from zero k m = []
-sa_from (suc n) k m = if eqb (payload_at k m).payloadtype 1 then body_at k m else sa_from n (k + 1) m
+sa_from (suc n) k m = if eqb (payload_at k m).payloadtype 1 then body_at k m otherwise sa_from n (k + 1) m
 
 -- the refusal of a message that does not read; it is asked of no other
 unfoldable pub message_refusal : (read : Message) → Choice
@@ -84,7 +84,7 @@ unfoldable pub message_choice : (book m : Bytes) (read : Message) → Choice
 message_choice book m (read.Refused number) = Refused number
 message_choice book m (read.Read exchange count) =
     if eqb (length (sa_from count 0 m)) 0 then Refused 16
-    else choose_from exchange book (sa_from count 0 m)
+    otherwise choose_from exchange book (sa_from count 0 m)
 
 unfoldable pub book_choice : (book m : Bytes) (read : Book) → Choice
 book_choice book m (books.Refused number) = Refused number

@@ -3,7 +3,7 @@
 -- the order of the refusals; what a lawful reply is with no search in it, and that the two agree, is policy_repeats's.
 use Rattle.std.specs.Prelude.{ℕ, ◌-◌, List, [], ◌∷◌, Bool, not, ◌||◌, ◌&&◌, length, eqb}
 use Rattle.wire_read.specs.Wire.{Bytes, equal}
-use Rattle.wire_read.specs.Tests.{if◌then◌else◌}
+use Rattle.wire_read.specs.Tests.{if◌then◌otherwise◌}
 use Rattle.wire_read.specs.Answer.{Answer, done, refused}
 use Rattle.message_header.specs.Header.{exchange_of}
 use Rattle.message_chain.specs.Message.{message}
@@ -72,24 +72,24 @@ offered_transform p q = transform_numbered (transform_number (replied_transform 
 
 -- "several transforms in a proposal"
 unfoldable pub several_transforms : (q : Bytes) → Difference
-several_transforms q = if eqb (transform_count q) 1 then Nothing else SeveralTransforms (protocol q) (transform_count q)
+several_transforms q = if eqb (transform_count q) 1 then Nothing otherwise SeveralTransforms (protocol q) (transform_count q)
 
 -- "transform number not offered"
 unfoldable pub transform_not_offered : (p q : Bytes) → Difference
 transform_not_offered p q =
-    if eqb (length (offered_transform p q)) 0 then TransformNotOffered (protocol q) (transform_number (replied_transform q)) else Nothing
+    if eqb (length (offered_transform p q)) 0 then TransformNotOffered (protocol q) (transform_number (replied_transform q)) otherwise Nothing
 
 -- "its ID"
 unfoldable pub other_id : (p q : Bytes) → Difference
 other_id p q =
     if eqb (transform_id (replied_transform q)) (transform_id (offered_transform p q)) then Nothing
-    else Id (protocol q) (transform_number (replied_transform q)) (transform_id (replied_transform q)) (transform_id (offered_transform p q))
+    otherwise Id (protocol q) (transform_number (replied_transform q)) (transform_id (replied_transform q)) (transform_id (offered_transform p q))
 
 -- "its attributes"
 unfoldable pub other_attributes : (p q : Bytes) → Difference
 other_attributes p q =
     if equal (attributes_of (replied_transform q)) (attributes_of (offered_transform p q)) then Nothing
-    else Attributes (protocol q) (transform_number (replied_transform q))
+    otherwise Attributes (protocol q) (transform_number (replied_transform q))
 
 -- ---- the reply's set beside the offered set that has its number
 
@@ -114,7 +114,7 @@ unfoldable pub same_order : (offered s : Bytes) → Bool
 same_order offered s = eqb (protocol (proposal 0 offered)) (protocol (proposal 0 s)) && eqb (protocol (last offered)) (protocol (last s))
 
 unfoldable pub protocols_differ : (offered s : Bytes) → Difference
-protocols_differ offered s = if not (same_protocols offered s) then Protocols else if not (same_order offered s) then Order else Nothing
+protocols_differ offered s = if not (same_protocols offered s) then Protocols otherwise if not (same_order offered s) then Order otherwise Nothing
 
 unfoldable pub transforms_differ : (offered s : Bytes) → Difference
 transforms_differ offered s =
@@ -140,8 +140,8 @@ offered_set offer reply = set_numbered (replied_number reply) offer
 unfoldable pub sets_differ : (offer reply : Bytes) → Difference
 sets_differ offer reply =
     if not (eqb (set_count reply) 1) then SeveralSets (set_count reply)
-    else if eqb (length (offered_set offer reply)) 0 then SetNotOffered (replied_number reply)
-    else Nothing
+    otherwise if eqb (length (offered_set offer reply)) 0 then SetNotOffered (replied_number reply)
+    otherwise Nothing
 
 -- then "protocols, their order, several transforms in a proposal, transform number not offered, its ID, its attributes"
 unfoldable pub bodies_differ : (offer reply : Bytes) → Difference
@@ -155,14 +155,14 @@ bodies_differ offer reply =
 unfoldable pub other_transform : (chosen : TransformNumber) (q : Bytes) → Difference
 other_transform chosen q =
     if eqb (transform_number (replied_transform q)).0 chosen.0 then Nothing
-    else OtherTransform (protocol q) (transform_number (replied_transform q)) chosen
+    otherwise OtherTransform (protocol q) (transform_number (replied_transform q)) chosen
 
 unfoldable pub other_transforms : (s : Bytes) (chosen : Transforms) → Difference
 other_transforms s (One t) = other_transform t (proposal 0 s)
 other_transforms s (Two t u) = other_transform t (proposal 0 s) or_else other_transform u (last s)
 
 unfoldable pub other_set : (number chosen : ProposalNumber) → Difference
-other_set number chosen = if eqb number.0 chosen.0 then Nothing else OtherSet number chosen
+other_set number chosen = if eqb number.0 chosen.0 then Nothing otherwise OtherSet number chosen
 
 unfoldable pub choice_differs : (reply : Bytes) (chosen : Choice) → Difference
 choice_differs reply (choices.Refused number) = NothingChosen
@@ -178,14 +178,14 @@ sa_body m = sa_from 32 0 m
 unfoldable pub unread : (booked : Bool) (book offer reply : Bytes) → Difference
 unread booked book offer reply =
     offer_refused (message_offer offer (message offer))
-    or_else (if booked then book_refused (book_read book) else Nothing)
+    or_else (if booked then book_refused (book_read book) otherwise Nothing)
     or_else reply_refused (message_offer reply (message reply))
 
 -- two bodies, the offer being of this exchange
 unfoldable pub compared : (booked : Bool) (exchange : ℕ) (book offer reply : Bytes) → Difference
 compared booked exchange book offer reply =
     bodies_differ offer reply
-    or_else (if booked then choice_differs reply (choose_from exchange book offer) else Nothing)
+    or_else (if booked then choice_differs reply (choose_from exchange book offer) otherwise Nothing)
 
 unfoldable pub first_difference : (booked : Bool) (book offer reply : Bytes) → Difference
 first_difference booked book offer reply =

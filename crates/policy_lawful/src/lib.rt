@@ -2,7 +2,7 @@
 #![tactic(auto)]
 
 ghost use Rattle.std.specs.Prelude.{◌≡◌};
-ghost use Rattle.wire_read.specs.Tests.{if◌then◌else◌};
+ghost use Rattle.wire_read.specs.Tests.{if◌then◌otherwise◌};
 ghost use Rattle.message_chain.specs.Message.{message};
 ghost use Rattle.policy_book.specs.Book.{book_read};
 ghost use Rattle.policy_choice.specs.Choice.{choose_from};

@@ -11,7 +11,7 @@ use lib.Seq.{length-take-le, take-append_seam, get_or-take, drop_at}
 use lib.Dec.{ltb, eqb}
 use borrow.Author.Tests.{le-ltb}
 use Rattle.wire_read.specs.Wire.{number_at}
-use Rattle.wire_read.specs.Tests.{if◌then◌else◌}
+use Rattle.wire_read.specs.Tests.{if◌then◌otherwise◌}
 use Rattle.wire_read.proofs.Tests.{by_test}
 use Rattle.wire_read.proofs.Laws.{number_agree, number_append}
 use Rattle.sa_fields.specs.Fields.{transform_id, attributes_of}
@@ -148,7 +148,7 @@ module _ {exchange i protocol : ℕ} {book t u : List ℕ} (known : (exchange �
 -- where a transform is lawful, its next field and its number decide what is answered
 lawful_code_lem : (exchange : ℕ) (t : List ℕ) → LawfulTransform exchange t → (left least : ℕ) (rest : List ℕ) →
     transform_code exchange left least (t ++ rest)
-    ≡ (if not (eqb (get_or t 0 0) (next_wanted left)) then 15 else if ltb (get_or t 4 0) least then 15 else 0)
+    ≡ (if not (eqb (get_or t 0 0) (next_wanted left)) then 15 otherwise if ltb (get_or t 4 0) least then 15 otherwise 0)
 unfolding transform_code transform_wrong
 lawful_code_lem exchange t l left least rest =
     let long : 8 ≤ length t = l.long in

@@ -10,7 +10,7 @@ use native.Mathlib.Numerals.{add-one}
 use lib.ListN.{length-append}
 use lib.Dec.{eqb}
 use borrow.Author.Tests.{eqb-true, eq-eqb}
-use Rattle.wire_read.specs.Tests.{if◌then◌else◌}
+use Rattle.wire_read.specs.Tests.{if◌then◌otherwise◌}
 use Rattle.wire_read.specs.Parts.{skip, parts}
 use Rattle.wire_read.proofs.Tests.{clash, both, by_test}
 use Rattle.wire_read.proofs.Parts.{parts_none, parts_more}
@@ -166,7 +166,7 @@ module _ (exchange : ℕ) where
 -- ---- attributes that read
 
 -- an exchange has one life type
-life_type_lem : (exchange t : ℕ) → is_life_type exchange t ≡ true → t ≡ (if eqb exchange 2 then 11 else 1)
+life_type_lem : (exchange t : ℕ) → is_life_type exchange t ≡ true → t ≡ (if eqb exchange 2 then 11 otherwise 1)
 unfolding is_life_type
 life_type_lem exchange t h =
     by_test (eqb exchange 2)

@@ -7,7 +7,7 @@ use mathlib.Core.Bool.{Bool, true, false, not}
 use lib.ListN.{length}
 use lib.Dec.{eqb}
 use Rattle.wire_read.specs.Wire.{equal}
-use Rattle.wire_read.specs.Tests.{if◌then◌else◌}
+use Rattle.wire_read.specs.Tests.{if◌then◌otherwise◌}
 use Rattle.wire_read.proofs.Tests.{never}
 use Rattle.sa_fields.specs.Fields.{transform_count, transform_number, transform_id, attributes_of}
 use Rattle.sa_fields.specs.declared.ProposalNumber.{ProposalNumber}
@@ -85,11 +85,11 @@ module _ (number : ℕ) where
   only_else a b (inl e) f = rw e f
   only_else a b (inr e) f = rw (refused-first a b number e) (inr e)
 
-  only_unless : (test : Bool) (a : Difference) → lawful_by a ≡ Refused number → Only number (if test then Nothing else a)
+  only_unless : (test : Bool) (a : Difference) → lawful_by a ≡ Refused number → Only number (if test then Nothing otherwise a)
   only_unless true a h = inl refl
   only_unless false a h = inr h
 
-  only_if : (test : Bool) (a b : Difference) → lawful_by a ≡ Refused number → Only number b → Only number (if test then a else b)
+  only_if : (test : Bool) (a b : Difference) → lawful_by a ≡ Refused number → Only number b → Only number (if test then a otherwise b)
   only_if true a b h f = inr h
   only_if false a b h f = f
 

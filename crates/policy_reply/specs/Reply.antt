@@ -3,7 +3,7 @@
 use Rattle.std.specs.Prelude.{ℕ, ◌+◌, [], ◌∷◌, ◌++◌, Bool, ◌||◌, ◌&&◌, length, drop, ltb, eqb}
 use Rattle.wire_read.specs.Wire.{Bytes}
 use Rattle.wire_write.specs.Put.{bytes_of, head, headed, paste}
-use Rattle.wire_read.specs.Tests.{if◌then◌else◌}
+use Rattle.wire_read.specs.Tests.{if◌then◌otherwise◌}
 use Rattle.wire_read.specs.Answer.{Answer, done, refused}
 use Rattle.sa_fields.specs.Fields.{proposal_number, protocol}
 use Rattle.sa_sets.specs.Sets.{set_numbered}
@@ -19,7 +19,7 @@ use Rattle.policy_reply.specs.declared.Outcome.TheVariants.{Refused, Written}
 
 -- "own SPIs": AH's in a proposal for AH, ESP's in one for ESP, none with exchange 2
 unfoldable pub own_spi : (ah esp protocol : ℕ) → Bytes
-own_spi ah esp protocol = if eqb protocol 2 then bytes_of 4 ah else if eqb protocol 3 then bytes_of 4 esp else []
+own_spi ah esp protocol = if eqb protocol 2 then bytes_of 4 ah otherwise if eqb protocol 3 then bytes_of 4 esp otherwise []
 
 -- what a proposal of one transform begins with: next, reserved, length, number, protocol, SPI size, count
 unfoldable pub fields : (next size number protocol spi_size : ℕ) → Bytes
@@ -56,7 +56,7 @@ spis_low ah esp (Two t u) s = spi_low ah esp (protocol (proposal 0 s)) || spi_lo
 unfoldable pub set_replied : (ah esp : ℕ) (transforms : Transforms) (s buffer : Bytes) → Outcome × Bytes
 set_replied ah esp transforms s buffer =
     if spis_low ah esp transforms s then (Refused 11, buffer)
-    else (Written (length (sa_of 0 (set_reply ah esp transforms s))), paste buffer 0 (sa_of 0 (set_reply ah esp transforms s)))
+    otherwise (Written (length (sa_of 0 (set_reply ah esp transforms s))), paste buffer 0 (sa_of 0 (set_reply ah esp transforms s)))
 
 -- the chosen set, by its number, in the SA payload of a message; a message has at most 32 payloads
 unfoldable pub choice_replied : (ah esp : ℕ) (m : Bytes) (chosen : Choice) (buffer : Bytes) → Outcome × Bytes
@@ -66,7 +66,7 @@ choice_replied ah esp m (choices.Chosen number line transforms) buffer = set_rep
 unfoldable pub replied : (book m : Bytes) (ah esp : ℕ) (buffer : Bytes) → Outcome × Bytes
 replied book m ah esp buffer =
     if ltb (length buffer) 2048 then (Refused 8192, buffer)
-    else choice_replied ah esp m (choice book m) buffer
+    otherwise choice_replied ah esp m (choice book m) buffer
 
 -- the refusal of a choice that was refused; it is asked of no other
 unfoldable pub choice_refusal : (chosen : Choice) → Outcome

@@ -9,7 +9,7 @@ use native.Mathlib.Omega.{arith}
 use lib.ListN.{length, take, length-append}
 use lib.Dec.{ltb, leb, eqb}
 use borrow.Author.Tests.{eqb-true, eqb-false, ne_eqb, leb-true, le-ltb, not-false}
-use Rattle.wire_read.specs.Tests.{if◌then◌else◌}
+use Rattle.wire_read.specs.Tests.{if◌then◌otherwise◌}
 use Rattle.wire_read.specs.Parts.{parts}
 use Rattle.wire_read.proofs.Tests.{never, clash, both, by_test}
 use Rattle.wire_read.proofs.Parts.{parts_none, parts_more}
@@ -44,12 +44,12 @@ module _ {exchange : ℕ} {a : List ℕ} (o : One exchange a) (r : List ℕ) whe
   pub long_enough : ltb (length (a ++ r)) 4 ≡ false
   long_enough = le-ltb (length (a ++ r)) 4 (omega (arith, length-append a r, o.long))
 
-  find-step : (k t : ℕ) → find (suc k) t (a ++ r) ≡ (if eqb (attribute_type a) t then a else find k t r)
+  find-step : (k t : ℕ) → find (suc k) t (a ++ r) ≡ (if eqb (attribute_type a) t then a otherwise find k t r)
   unfolding find
   find-step k t = rw (long_enough, type_head a r o.long, take_head a r o.long o.size, after-head a r o.long o.size)
 
   duration-step : (k lifetype unit : ℕ) → find_duration (suc k) lifetype unit (a ++ r)
-      ≡ (if eqb (attribute_type a) lifetype && eqb (value a) unit then take (attribute_size r) r else find_duration k lifetype unit r)
+      ≡ (if eqb (attribute_type a) lifetype && eqb (value a) unit then take (attribute_size r) r otherwise find_duration k lifetype unit r)
   unfolding find_duration
   duration-step k lifetype unit =
       rw (long_enough, type_head a r o.long, value-head a r o.long o.size, after-head a r o.long o.size)

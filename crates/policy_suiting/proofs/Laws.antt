@@ -7,7 +7,7 @@ use mathlib.Core.Bool.{Bool, true, false, ◌||◌, ◌&&◌, or-true}
 use native.Mathlib.Omega.{arith}
 use lib.Dec.{eqb, leb}
 use borrow.Author.Tests.{eqb-true, eq-eqb, ne_eqb, leb-true, leb-false, le-leb}
-use Rattle.wire_read.specs.Tests.{if◌then◌else◌}
+use Rattle.wire_read.specs.Tests.{if◌then◌otherwise◌}
 use Rattle.wire_read.proofs.Tests.{clash, both, by_test}
 use Rattle.sa_fields.specs.Fields.{transform_count}
 use Rattle.sa_items.specs.Items.{proposal, proposal_count}
@@ -22,7 +22,7 @@ pub data First (test : ℕ → Bool) (n k : ℕ) : ℕ → Type 0 where
 -- the first of the n from k on that passes the test, counted from 1; 0 where none does
 unfoldable pub first_from : (ℕ → Bool) → ℕ → ℕ → ℕ
 first_from test zero k = 0
-first_from test (suc n) k = if test k then k + 1 else first_from test n (k + 1)
+first_from test (suc n) k = if test k then k + 1 otherwise first_from test n (k + 1)
 
 -- what holds at k and from k + 1 on holds from k on
 module _ (test : ℕ → Bool) (k top : ℕ) (first : test k ≡ false) (after : (j : ℕ) → k + 1 ≤ j → j < top → test j ≡ false) where
@@ -36,7 +36,7 @@ one_more : (test : ℕ → Bool) (n k : ℕ) {r : ℕ} → test k ≡ false → 
 one_more test n k e (none f) = none (λ j h l. from_here test k (k + suc n) e (λ i g m. f i g (omega arith)) j h l)
 one_more test n k e (here j h l t f) = here j (omega arith) (omega arith) t (λ i g m. from_here test k j e f i g m)
 
-pick_first : (test : ℕ → Bool) (n k r : ℕ) → First test n (k + 1) r → (b : Bool) → test k ≡ b → First test (suc n) k (if b then k + 1 else r)
+pick_first : (test : ℕ → Bool) (n k r : ℕ) → First test n (k + 1) r → (b : Bool) → test k ≡ b → First test (suc n) k (if b then k + 1 otherwise r)
 pick_first test n k r f true e = here k (omega arith) (omega arith) e (λ i h l. absurd (omega arith))
 pick_first test n k r f false e = one_more test n k e f
 
@@ -93,7 +93,7 @@ module _ (s : List ℕ) where
   unfolding protocols_both
   paired h = eqb-true (proposal_count s) 2 (both (eqb (proposal_count s) 2) _ h).0
 
-  pick-few : (a b : Bool) → (if a then protocols_alone 1 s else if b then protocols_alone 3 s else protocols_both s) ≡ true →
+  pick-few : (a b : Bool) → (if a then protocols_alone 1 s otherwise if b then protocols_alone 3 s otherwise protocols_both s) ≡ true →
       (proposal_count s ≡ 1) ⊎ (proposal_count s ≡ 2)
   pick-few true b h = inl (alone 1 h)
   pick-few false true h = inl (alone 3 h)

@@ -7,7 +7,7 @@ use native.Mathlib.Omega.{arith}
 use lib.ListN.{length}
 use lib.Dec.{leb, eqb}
 use borrow.Author.Tests.{eqb-true, eq-eqb, leb-true, le-leb}
-use Rattle.wire_read.specs.Tests.{if◌then◌else◌}
+use Rattle.wire_read.specs.Tests.{if◌then◌otherwise◌}
 use Rattle.wire_read.specs.Parts.{parts}
 use Rattle.wire_read.proofs.Tests.{both, by_test}
 use Rattle.sa_attribute.specs.Attributes.{after_attribute, find, attribute, attribute_count, value}
@@ -110,7 +110,7 @@ module _ {exchange lifetype : ℕ} (known : LifeType exchange lifetype) (s : Lis
   pub kilobytes-say : (n : ℕ) → kilobytes_some lifetype s ≡ true → nothing_surplus n lifetype s ≡ true → Traffic n
   unfolding kilobytes_some nothing_surplus sum weight
   kilobytes-say n h g =
-      let count : attribute_count s ≡ (if has_kilobytes lifetype s then n + 2 else n) = eqb-true _ _ g in
+      let count : attribute_count s ≡ (if has_kilobytes lifetype s then n + 2 otherwise n) = eqb-true _ _ g in
       by_test (has_kilobytes lifetype s)
       (λ e. record {
         traffic = kilobytes (value (kilobytes_of lifetype s)) ∷ [];

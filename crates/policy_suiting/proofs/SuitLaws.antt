@@ -8,7 +8,7 @@ use native.Mathlib.Omega.{arith}
 use lib.ListN.{length, get_or}
 use lib.Dec.{eqb}
 use borrow.Author.Tests.{eqb-true, leb-true}
-use Rattle.wire_read.specs.Tests.{if◌then◌else◌}
+use Rattle.wire_read.specs.Tests.{if◌then◌otherwise◌}
 use Rattle.wire_read.proofs.Tests.{both, by_test}
 use Rattle.sa_transforms.proofs.Laws.{LawfulTransform}
 use Rattle.sa_proposals.proofs.Laws.{Item}
@@ -78,7 +78,7 @@ module _ (s : List ℕ) where
   unfolding protocols_alone
   single wanted h = eqb-true (proposal_count s) 1 (both (eqb (proposal_count s) 1) _ h).0
 
-  one_or_pair : (a b : Bool) → (if a then protocols_alone 1 s else if b then protocols_alone 3 s else protocols_both s) ≡ true → (proposal_count s ≡ 1) ⊎ Pair s
+  one_or_pair : (a b : Bool) → (if a then protocols_alone 1 s otherwise if b then protocols_alone 3 s otherwise protocols_both s) ≡ true → (proposal_count s ≡ 1) ⊎ Pair s
   one_or_pair true b h = inl (single 1 h)
   one_or_pair false true h = inl (single 3 h)
   one_or_pair false false h = inr (pair h)

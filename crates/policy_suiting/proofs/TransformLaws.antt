@@ -7,7 +7,7 @@ use native.Mathlib.Omega.{arith}
 use lib.ListN.{length, drop, length-drop}
 use lib.Dec.{eqb}
 use borrow.Author.Tests.{eqb-true, eq-eqb}
-use Rattle.wire_read.specs.Tests.{if◌then◌else◌}
+use Rattle.wire_read.specs.Tests.{if◌then◌otherwise◌}
 use Rattle.wire_read.proofs.Tests.{both, by_test}
 use Rattle.sa_coding.specs.Coding.{must_be_fixed, is_duration, is_life_type}
 use Rattle.sa_wholes.proofs.Wholes.{Reads, reads-orderly}
@@ -57,7 +57,7 @@ main_wish_lem = record {
 abbrev no_five : (protocols protocol : ℕ) → Bool
 no_five protocols protocol = eqb protocols 2 && eqb protocol 3
 
-quick_wish_lem : (protocols mode protocol : ℕ) → Wish 32 (if no_five protocols protocol then 3 else 4) (quick_attributes protocols mode protocol)
+quick_wish_lem : (protocols mode protocol : ℕ) → Wish 32 (if no_five protocols protocol then 3 otherwise 4) (quick_attributes protocols mode protocol)
 unfolding same_kind none_of apart sum weight all_fixed must_be_fixed room
 quick_wish_lem protocols mode protocol = record {
   lasts = λ life. (_, behind at_front);
@@ -198,16 +198,16 @@ module _ (t : List ℕ) (lawful : LawfulTransform 2 t) (longest : ℕ) where
 
 module _ (t : List ℕ) (lawful : LawfulTransform 32 t) (protocols mode longest protocol : ℕ) where
   abbrev id : ℕ
-  id = if eqb protocol 2 then 20 else 129
+  id = if eqb protocol 2 then 20 otherwise 129
 
   abbrev count : ℕ
-  count = if no_five protocols protocol then 3 else 4
+  count = if no_five protocols protocol then 3 otherwise 4
 
   abbrev wants : (life : ℕ) → List Offered
   wants = quick_attributes protocols mode protocol
 
   abbrev five : List Offered
-  five = if no_five protocols protocol then [] else single 5 20 ∷ []
+  five = if no_five protocols protocol then [] otherwise single 5 20 ∷ []
 
   authentication-says : quick_authentication protocols protocol (attributes_of t) ≡ true →
       AllWithin five (offered_list 32 (attributes_of t)) × (nothing_surplus count 1 (attributes_of t) ≡ true)

@@ -3,7 +3,7 @@
 -- code looks for it; proofs/SuitingLaws.antt shows that the two agree.
 use Rattle.std.specs.Prelude.{ℕ, zero, suc, ◌≤◌, ◌<◌, ◌≡◌, List, [], ◌∷◌, ◌++◌, map, ◌&&◌, length, eqb}
 use Rattle.wire_read.specs.Wire.{Bytes}
-use Rattle.wire_read.specs.Tests.{if◌then◌else◌}
+use Rattle.wire_read.specs.Tests.{if◌then◌otherwise◌}
 use Rattle.policy_lines.specs.Lines.{main_seconds, quick_protocols, quick_mode, quick_seconds}
 use Rattle.sa_attribute.specs.Attributes.{attribute_type, after_attribute, value}
 use Rattle.sa_coding.specs.Coding.{is_life_type}
@@ -16,7 +16,7 @@ use Rattle.sa_items.specs.Items.{first_item, after_item, proposal, proposal_coun
 -- what lies one behind the other in s, at most left: tell says of the first what goes into the list, and rest takes it off
 unfoldable pub listed : {A : Type 0} (tell : Bytes → A) (rest : Bytes → Bytes) (left : ℕ) (s : Bytes) → List A
 listed tell rest zero s = []
-listed tell rest (suc left) s = if eqb (length s) 0 then [] else tell s ∷ listed tell rest left (rest s)
+listed tell rest (suc left) s = if eqb (length s) 0 then [] otherwise tell s ∷ listed tell rest left (rest s)
 
 -- what a transform offers: an attribute by its type and value, or a lifetime by the life type's value and the duration's, "pairs as wholes"
 pub data Offered : Type 0 where
@@ -26,7 +26,7 @@ pub data Offered : Type 0 where
 unfoldable pub told : (exchange : ℕ) (w : Bytes) → Offered
 told exchange w =
     if is_life_type exchange (attribute_type w) then lifetime (value w) (value (after_attribute w))
-    else single (attribute_type w) (value w)
+    otherwise single (attribute_type w) (value w)
 
 -- what a transform offers, one after the other
 unfoldable pub offered_list : (exchange : ℕ) (attributes : Bytes) → List Offered
@@ -64,7 +64,7 @@ main_attributes life = single 1 129 ∷ single 2 20 ∷ single 3 10 ∷ single 2
 -- "4=mode, 1=1, 2 .., and 5=20, but no 5 in an ESP that goes with AH"; protocols as the line says it: "1 ESP alone, 2 AH with ESP"
 abbrev pub quick_attributes : (protocols mode protocol life : ℕ) → List Offered
 quick_attributes protocols mode protocol life =
-    single 4 mode ∷ seconds life ∷ (if eqb protocols 2 && eqb protocol 3 then [] else single 5 20 ∷ [])
+    single 4 mode ∷ seconds life ∷ (if eqb protocols 2 && eqb protocol 3 then [] otherwise single 5 20 ∷ [])
 
 -- "and, if present, kilobytes of at least 1"
 pub data IfPresent : (traffic : List Offered) → Type 0 where
@@ -86,7 +86,7 @@ pub record Matches (exchange id longest : ℕ) (wanted : (life : ℕ) → List O
 pub data TransformSuits (exchange i : ℕ) (book : Bytes) (protocol : ℕ) (t : Bytes) : Type 0 where
   main : exchange ≡ 2 → Matches 2 1 (main_seconds i book) main_attributes t → TransformSuits exchange i book protocol t
   quick : (exchange ≡ 2 → ⊥) →
-      Matches 32 (if eqb protocol 2 then 20 else 129) (quick_seconds i book) (quick_attributes (quick_protocols i book) (quick_mode i book) protocol) t →
+      Matches 32 (if eqb protocol 2 then 20 otherwise 129) (quick_seconds i book) (quick_attributes (quick_protocols i book) (quick_mode i book) protocol) t →
       TransformSuits exchange i book protocol t
 
 -- one of a proposal's transforms suits
@@ -97,8 +97,8 @@ HasTransform exchange i book p = (k : ℕ) × (k < transform_count p) × Transfo
 unfoldable pub line_protocols : (exchange i : ℕ) (book : Bytes) → List ℕ
 line_protocols exchange i book =
     if eqb exchange 2 then 1 ∷ []
-    else if eqb (quick_protocols i book) 1 then 3 ∷ []
-    else 2 ∷ 3 ∷ []
+    otherwise if eqb (quick_protocols i book) 1 then 3 ∷ []
+    otherwise 2 ∷ 3 ∷ []
 
 -- "A set suits a line if its protocols are exactly the line's and each proposal has a suiting transform"
 pub record Suits (exchange i : ℕ) (book set : Bytes) : Type 0 where

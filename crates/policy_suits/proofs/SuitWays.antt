@@ -9,7 +9,7 @@ use lib.ListN.{length, take, drop, length-drop}
 use lib.Seq.{drop-drop}
 use lib.Dec.{ltb, leb, eqb}
 use borrow.Author.Tests.{eq-eqb, ne_eqb, lt-ltb, le-ltb, le-leb, not-true, not-false}
-use Rattle.wire_read.specs.Tests.{if◌then◌else◌}
+use Rattle.wire_read.specs.Tests.{if◌then◌otherwise◌}
 use Rattle.wire_read.proofs.Tests.{by_test}
 use Rattle.wire_read.proofs.Parts.{skip-next}
 use Rattle.wire_read.specs.Wire.{number_at}
@@ -43,8 +43,8 @@ module _ (lifetype unit : ℕ) (s : List ℕ) (t : ℕ) (et : t ≡ attribute_ty
 duration-step : (left lifetype unit : ℕ) (s : List ℕ) → (left ≡ 0 → ⊥) →
     find_duration left lifetype unit s
     ≡ (if ltb (length s) 4 then []
-    else if is_unit lifetype unit s then take (attribute_size (after_attribute s)) (after_attribute s)
-    else find_duration (left - 1) lifetype unit (after_attribute s))
+    otherwise if is_unit lifetype unit s then take (attribute_size (after_attribute s)) (after_attribute s)
+    otherwise find_duration (left - 1) lifetype unit (after_attribute s))
 unfolding find_duration
 duration-step zero lifetype unit s h = absurd (h refl)
 duration-step (suc left) lifetype unit s h = let i : suc left - 1 ≡ left = omega arith in rw i
@@ -66,7 +66,7 @@ module _ (left lifetype unit at : ℕ) (s goal : List ℕ) (so_far : find_durati
 
   module _ (may : left ≡ 0 → ⊥) (here : List ℕ) (eh : here ≡ drop at s) (long : 4 ≤ length here) (n : ℕ) (en : n ≡ attribute_size here)
       (behind : List ℕ) (eb : behind ≡ drop n here) (unit-here : Bool) (eu : unit-here ≡ is_unit lifetype unit here) where
-    step : goal ≡ (if unit-here then take (attribute_size behind) behind else find_duration (left - 1) lifetype unit behind)
+    step : goal ≡ (if unit-here then take (attribute_size behind) behind otherwise find_duration (left - 1) lifetype unit behind)
     unfolding after_attribute
     step = sym so_far ∙ duration-step left lifetype unit (drop at s) may ∙ rw (← eh, le-ltb (length here) 4 long, ← eu, ← en, ← eb)
 
@@ -184,7 +184,7 @@ module _ (exchange : ℕ) (line : LineNumber) (book : List ℕ) (protocol : ℕ)
 
 in_step : (n exchange i : ℕ) (book : List ℕ) (protocol : ℕ) (rest : List ℕ) → (n ≡ 0 → ⊥) →
     lowest_in n exchange i book protocol rest ≡ (if suits_line exchange i book protocol (first_item rest) then Lowest (transform_number (first_item rest))
-    else lowest_in (n - 1) exchange i book protocol (after_item rest))
+    otherwise lowest_in (n - 1) exchange i book protocol (after_item rest))
 unfolding lowest_in
 in_step zero exchange i book protocol rest h = absurd (h refl)
 in_step (suc n) exchange i book protocol rest h = let e : suc n - 1 ≡ n = omega arith in rw e
@@ -208,7 +208,7 @@ module _ (n exchange i : ℕ) (book : List ℕ) (protocol : ℕ) (rest : List �
 -- the transforms that lie behind the first k are those from place k on
 module _ (exchange i : ℕ) (book p : List ℕ) where
   abbrev named : ℕ → SuitingTransform
-  named k = if leb 1 k then Lowest (transform_number (transform (k - 1) p)) else None
+  named k = if leb 1 k then Lowest (transform_number (transform (k - 1) p)) otherwise None
 
   in_places : (n k : ℕ) → lowest_in n exchange i book (protocol p) (skip after_item k (transform_bytes p)) ≡ named (lowest_from n k exchange i book p)
   unfolding lowest_in lowest_from transform_suits transform

@@ -1,7 +1,7 @@
 -- Which transform, and which set, suits which line, document 01, "Policy book and choice", with document 02, "Two lifetimes in one offer".
 use Rattle.std.specs.Prelude.{ℕ, zero, suc, ◌+◌, ◌-◌, [], Bool, not, ◌||◌, ◌&&◌, length, take, ltb, leb, eqb}
 use Rattle.wire_read.specs.Wire.{Bytes}
-use Rattle.wire_read.specs.Tests.{if◌then◌else◌}
+use Rattle.wire_read.specs.Tests.{if◌then◌otherwise◌}
 use Rattle.policy_lines.specs.Lines.{main_seconds, quick_protocols, quick_mode, quick_seconds}
 use Rattle.sa_attribute.specs.Attributes.{attribute_type, attribute_size, after_attribute, attribute, attribute_count, value}
 use Rattle.sa_fields.specs.Fields.{protocol, transform_count, transform_number, transform_id, attributes_of}
@@ -25,8 +25,8 @@ unfoldable pub find_duration : (k lifetype unit : ℕ) (s : Bytes) → Bytes
 find_duration zero lifetype unit s = []
 find_duration (suc k) lifetype unit s =
     if ltb (length s) 4 then []
-    else if is_unit lifetype unit s then take (attribute_size (after_attribute s)) (after_attribute s)
-    else find_duration k lifetype unit (after_attribute s)
+    otherwise if is_unit lifetype unit s then take (attribute_size (after_attribute s)) (after_attribute s)
+    otherwise find_duration k lifetype unit (after_attribute s)
 
 -- of life type 1, seconds, and of life type 2, kilobytes
 abbrev pub seconds_of : (lifetype : ℕ) (attributes : Bytes) → Bytes
@@ -49,7 +49,7 @@ kilobytes_some lifetype attributes = not (has_kilobytes lifetype attributes) || 
 
 -- "exactly": so many attributes, two more with kilobytes, and no more
 unfoldable pub nothing_surplus : (wanted lifetype : ℕ) (attributes : Bytes) → Bool
-nothing_surplus wanted lifetype attributes = eqb (attribute_count attributes) (if has_kilobytes lifetype attributes then wanted + 2 else wanted)
+nothing_surplus wanted lifetype attributes = eqb (attribute_count attributes) (if has_kilobytes lifetype attributes then wanted + 2 otherwise wanted)
 
 -- "A main transform suits if its ID is 1 and its attributes are exactly 1=129, 2=20, 3=10, 20=2, 11=1 and 12 from 1 to the line's seconds",
 -- "and, if present, kilobytes"
@@ -64,12 +64,12 @@ main_suits seconds t =
 -- "A quick one: ID 20 (AH) or 129 (ESP); attributes exactly 4=mode, 1=1, 2 from 1 to the line's seconds, and 5=20, but no 5 in an ESP that
 -- goes with AH", "and, if present, kilobytes"
 unfoldable pub quick_id : (protocol : ℕ) → ℕ
-quick_id protocol = if eqb protocol 2 then 20 else 129
+quick_id protocol = if eqb protocol 2 then 20 otherwise 129
 
 unfoldable pub quick_authentication : (protocols protocol : ℕ) (attributes : Bytes) → Bool
 quick_authentication protocols protocol attributes =
     if eqb protocols 2 && eqb protocol 3 then nothing_surplus 3 1 attributes
-    else value_is 5 20 attributes && nothing_surplus 4 1 attributes
+    otherwise value_is 5 20 attributes && nothing_surplus 4 1 attributes
 
 unfoldable pub quick_suits : (protocols mode seconds protocol : ℕ) (t : Bytes) → Bool
 quick_suits protocols mode seconds protocol t =
@@ -83,7 +83,7 @@ suits_quick_line i book protocol t = quick_suits (quick_protocols i book) (quick
 unfoldable pub suits_line : (exchange i : ℕ) (book : Bytes) (protocol : ℕ) (t : Bytes) → Bool
 suits_line exchange i book protocol t =
     if eqb exchange 2 then main_suits (main_seconds i book) t
-    else suits_quick_line i book protocol t
+    otherwise suits_quick_line i book protocol t
 
 -- "each proposal has a suiting transform": whether transform k of a proposal suits the line
 unfoldable pub transform_suits : (exchange i : ℕ) (book p : Bytes) (k : ℕ) → Bool
@@ -94,7 +94,7 @@ unfoldable pub lowest_from : (n k exchange i : ℕ) (book p : Bytes) → ℕ
 lowest_from zero k exchange i book p = 0
 lowest_from (suc n) k exchange i book p =
     if transform_suits exchange i book p k then k + 1
-    else lowest_from n (k + 1) exchange i book p
+    otherwise lowest_from n (k + 1) exchange i book p
 
 unfoldable pub lowest : (exchange i : ℕ) (book p : Bytes) → ℕ
 lowest exchange i book p = lowest_from (transform_count p) 0 exchange i book p
@@ -105,14 +105,14 @@ has_transform exchange i book p = leb 1 (lowest exchange i book p)
 
 -- the lowest transform that suits, by its number
 unfoldable pub lowest_transform : (exchange i : ℕ) (book p : Bytes) → SuitingTransform
-lowest_transform exchange i book p = if has_transform exchange i book p then Lowest (transform_number (transform (lowest exchange i book p - 1) p)) else None
+lowest_transform exchange i book p = if has_transform exchange i book p then Lowest (transform_number (transform (lowest exchange i book p - 1) p)) otherwise None
 
 -- the same among the n transforms that lie in rest, in a proposal of this protocol
 unfoldable pub lowest_in : (n exchange i : ℕ) (book : Bytes) (protocol : ℕ) (rest : Bytes) → SuitingTransform
 lowest_in zero exchange i book protocol rest = None
 lowest_in (suc n) exchange i book protocol rest =
     if suits_line exchange i book protocol (first_item rest) then Lowest (transform_number (first_item rest))
-    else lowest_in n exchange i book protocol (after_item rest)
+    otherwise lowest_in n exchange i book protocol (after_item rest)
 
 -- "its protocols are exactly the line's": 1 in exchange 2, ESP alone, or AH with ESP in either order
 unfoldable pub protocols_alone : (wanted : ℕ) (set : Bytes) → Bool
@@ -126,8 +126,8 @@ protocols_both set =
 unfoldable pub protocols_suit : (exchange i : ℕ) (book set : Bytes) → Bool
 protocols_suit exchange i book set =
     if eqb exchange 2 then protocols_alone 1 set
-    else if eqb (quick_protocols i book) 1 then protocols_alone 3 set
-    else protocols_both set
+    otherwise if eqb (quick_protocols i book) 1 then protocols_alone 3 set
+    otherwise protocols_both set
 
 -- "A set suits a line if its protocols are exactly the line's and each proposal has a suiting transform"
 unfoldable pub set_suits : (exchange i : ℕ) (book set : Bytes) → Bool

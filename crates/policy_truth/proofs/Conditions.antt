@@ -3,7 +3,7 @@ use Prim.Native.Nat.{ℕ}
 use mathlib.Core.Path.{◌≡◌, refl, ap}
 use mathlib.Core.List.{List, [], ◌∷◌, ◌++◌}
 use mathlib.Core.Bool.{Bool, true, false}
-use Rattle.wire_read.specs.Tests.{if◌then◌else◌}
+use Rattle.wire_read.specs.Tests.{if◌then◌otherwise◌}
 use Rattle.wire_read.proofs.Tests.{by_test}
 use Rattle.policy_suiting.specs.Suiting.{at_front, behind}
 use Rattle.policy_suiting.proofs.Exactly.{Within, none_within}
@@ -33,7 +33,7 @@ module _ {True : Cause → Type 0} where
 
   -- a condition by one test
   pub by_condition : (test : Bool) (named : Cause) → ((next : Cause) → (named or_else next) ≡ named) → (test ≡ false → True named) →
-      Condition True (test ≡ true) (if test then Suits else named)
+      Condition True (test ≡ true) (if test then Suits otherwise named)
   by_condition true named stays says = holds refl
   by_condition false named stays says = fails stays (says refl)
 
@@ -57,10 +57,10 @@ module _ (test : ℕ × ℕ → Bool) where
         one_fails (a ∷ before) after b (ap (λ (l : List (ℕ × ℕ)). a ∷ l) e) (pass_more h pass) f
 
     pub first_fails : ((a : ℕ × ℕ) (next : Cause) → (named a or_else next) ≡ named a) → (all : List (ℕ × ℕ)) →
-        FirstFails all (first_cause (λ a. if test a then Suits else named a) all)
+        FirstFails all (first_cause (λ a. if test a then Suits otherwise named a) all)
     unfolding first_cause ◌or_else◌
     first_fails stays [] = none_fails (λ a m. absurd (none_within m))
     first_fails stays (a ∷ all) =
         by_test (test a)
         (λ e. rw e (first_on e (first_fails stays all)))
-        (λ e. rw (e, stays a (first_cause (λ b. if test b then Suits else named b) all)) (one_fails [] all a refl (λ b m. absurd (none_within m)) e))
+        (λ e. rw (e, stays a (first_cause (λ b. if test b then Suits otherwise named b) all)) (one_fails [] all a refl (λ b m. absurd (none_within m)) e))

@@ -6,7 +6,7 @@ use mathlib.Core.Bool.{Bool, true, false, not, ◌&&◌}
 use lib.ListN.{length}
 use lib.Dec.{leb, eqb}
 use borrow.Author.Tests.{eq-eqb}
-use Rattle.wire_read.specs.Tests.{if◌then◌else◌}
+use Rattle.wire_read.specs.Tests.{if◌then◌otherwise◌}
 use Rattle.wire_read.proofs.Tests.{never, both, by_test}
 use Rattle.policy_lines.specs.Lines.{main_seconds, quick_protocols, quick_mode, quick_seconds}
 use Rattle.sa_attribute.specs.Attributes.{attribute, value}
@@ -30,7 +30,7 @@ or_else_both (Surplus attributetype found) next h = never (cc)
 or_else_both (Seconds found longest) next h = never (cc)
 or_else_both Kilobytes next h = never (cc)
 
-suits_only : (test : Bool) {other : Cause} → (other ≡ Suits → ⊥) → (if test then Suits else other) ≡ Suits → test ≡ true
+suits_only : (test : Bool) {other : Cause} → (other ≡ Suits → ⊥) → (if test then Suits otherwise other) ≡ Suits → test ≡ true
 suits_only true no_suit h = refl
 suits_only false no_suit h = absurd (no_suit h)
 

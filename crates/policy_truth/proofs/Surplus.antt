@@ -8,7 +8,7 @@ use mathlib.Core.Bool.{true, false, ◌||◌, or-true, or-false}
 use native.Mathlib.Omega.{arith}
 use lib.Dec.{eqb}
 use borrow.Author.Tests.{eqb-true, eq-eqb}
-use Rattle.wire_read.specs.Tests.{if◌then◌else◌}
+use Rattle.wire_read.specs.Tests.{if◌then◌otherwise◌}
 use Rattle.wire_read.proofs.Tests.{never, clash, both, by_test}
 use Rattle.sa_attribute.specs.Attributes.{attribute_type, attribute_count, value}
 use Rattle.sa_coding.specs.Coding.{is_duration, is_life_type}
@@ -124,7 +124,7 @@ module _ {exchange : ℕ} {w : Wish} (wishes : Wishes exchange w) where
   -- ---- a step of the walk
 
   module _ {a : List ℕ} (o : One exchange a) (r : List ℕ) where
-    surplus-step : (k : ℕ) → first_surplus (suc k) w (a ++ r) ≡ (if is_wanted w (a ++ r) then first_surplus k w r else a)
+    surplus-step : (k : ℕ) → first_surplus (suc k) w (a ++ r) ≡ (if is_wanted w (a ++ r) then first_surplus k w r otherwise a)
     unfolding first_surplus
     surplus-step k = rw (long_enough o r, after-head a r o.long o.size, take_head a r o.long o.size)
 
@@ -218,7 +218,7 @@ module _ {exchange : ℕ} {w : Wish} (wishes : Wishes exchange w) where
       pub few_allowed : nothing_surplus (wanted_count w) lifetype s ≡ true → AllAllowed (offers w) offered
       unfolding nothing_surplus
       few_allowed h =
-          let count : attribute_count s ≡ (if has_kilobytes lifetype s then wanted_count w + 2 else wanted_count w) = eqb-true _ _ h in
+          let count : attribute_count s ≡ (if has_kilobytes lifetype s then wanted_count w + 2 otherwise wanted_count w) = eqb-true _ _ h in
           let own : attribute_count s ≡ sum weight offered = count_in wishes.life s reads in
           by_test (has_kilobytes lifetype s)
           (λ e. same_weight_back (kilobytes 0 ∷ offers w) offered wishes.once (all_more (has_there e) all)

@@ -4,7 +4,7 @@ use mathlib.Core.Path.{◌≡◌, refl, sym, ◌∙◌}
 use mathlib.Core.List.{List, [], ◌∷◌, map}
 use mathlib.Core.Bool.{Bool, true, false, not, ◌&&◌}
 use lib.Dec.{eqb}
-use Rattle.wire_read.specs.Tests.{if◌then◌else◌}
+use Rattle.wire_read.specs.Tests.{if◌then◌otherwise◌}
 use Rattle.wire_read.proofs.Tests.{never, by_test}
 use Rattle.sa_coding.specs.Coding.{is_duration}
 use Rattle.policy_suiting.specs.Suiting.{Offered, single, lifetime, seconds, kilobytes, quick_attributes, at_front, behind}
@@ -21,7 +21,7 @@ quick_wish id mode five longest = record { id = id; lifetype = 1; mode = mode; f
 
 -- the life type is wanted as seconds, any other with its value
 unfoldable pub as_offer : (lifetype longest : ℕ) (a : ℕ × ℕ) → Offered
-as_offer lifetype longest a = if eqb a.0 lifetype then seconds longest else single a.0 a.1
+as_offer lifetype longest a = if eqb a.0 lifetype then seconds longest otherwise single a.0 a.1
 
 abbrev pub offers : (w : Wish) → List Offered
 offers w = map (as_offer w.lifetype w.longest) (wanted w)

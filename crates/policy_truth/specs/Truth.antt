@@ -2,7 +2,7 @@
 -- offers and the list of what the line wants, in the words of Suiting.antt and with no search; and with each cause, that no cause before it holds.
 use Rattle.std.specs.Prelude.{ℕ, ◌≤◌, ◌≡◌, List, ◌∷◌, ◌++◌, eqb}
 use Rattle.wire_read.specs.Wire.{Bytes}
-use Rattle.wire_read.specs.Tests.{if◌then◌else◌}
+use Rattle.wire_read.specs.Tests.{if◌then◌otherwise◌}
 use Rattle.policy_lines.specs.Lines.{main_seconds, quick_protocols, quick_mode, quick_seconds}
 use Rattle.sa_fields.specs.Fields.{transform_id, attributes_of}
 use Rattle.policy_suiting.specs.Suiting.{Offered, single, lifetime, offered_list, PutIn, seconds, kilobytes, main_attributes, quick_attributes, TransformSuits}
@@ -25,7 +25,7 @@ There x list = (y : Offered) × OneKind x y × Among y list
 
 -- the type that a cause names, a lifetime's is its life type's: 11, or 1; and the value that a surplus attribute is shown with
 unfoldable pub life_type_of : (exchange : ℕ) → ℕ
-life_type_of exchange = if eqb exchange 2 then 11 else 1
+life_type_of exchange = if eqb exchange 2 then 11 otherwise 1
 
 unfoldable pub type_of : (exchange : ℕ) (x : Offered) → ℕ
 type_of exchange (single attributetype v) = attributetype
@@ -37,15 +37,15 @@ value_of (lifetime unit d) = unit
 
 -- what line i of the exchange's, counted from 0, wants of a transform of a proposal of this protocol, in document 01's order
 unfoldable pub wanted_id : (exchange protocol : ℕ) → ℕ
-wanted_id exchange protocol = if eqb exchange 2 then 1 else if eqb protocol 2 then 20 else 129
+wanted_id exchange protocol = if eqb exchange 2 then 1 otherwise if eqb protocol 2 then 20 otherwise 129
 
 unfoldable pub longest_seconds : (exchange i : ℕ) (book : Bytes) → ℕ
-longest_seconds exchange i book = if eqb exchange 2 then main_seconds i book else quick_seconds i book
+longest_seconds exchange i book = if eqb exchange 2 then main_seconds i book otherwise quick_seconds i book
 
 unfoldable pub wants : (exchange i : ℕ) (book : Bytes) (protocol : ℕ) → List Offered
 wants exchange i book protocol =
     if eqb exchange 2 then main_attributes (main_seconds i book)
-    else quick_attributes (quick_protocols i book) (quick_mode i book) protocol (quick_seconds i book)
+    otherwise quick_attributes (quick_protocols i book) (quick_mode i book) protocol (quick_seconds i book)
 
 -- ---- the conditions, one after the other
 

@@ -1,7 +1,7 @@
 -- Document 02, "Say why nothing was chosen": for which offers there is something to say, and the cause at each place.
 use Rattle.std.specs.Prelude.{ℕ, [], ◌∷◌, Bool, not, ◌&&◌, length, ltb, leb, eqb}
 use Rattle.wire_read.specs.Wire.{Bytes}
-use Rattle.wire_read.specs.Tests.{if◌then◌else◌}
+use Rattle.wire_read.specs.Tests.{if◌then◌otherwise◌}
 use Rattle.wire_read.specs.Answer.{Answer, done, refused}
 use Rattle.message_chain.specs.Message.{message}
 use Rattle.message_chain.specs.declared.Message.{Message}
@@ -24,7 +24,7 @@ use Rattle.policy_why.specs.declared.Why.TheVariants.{Refused, NoSuchPlace, Prot
 -- "For a readable offer and a book": the refusals of the choice, but never 14: the book's, the message's, no SA payload (16)
 unfoldable pub message_offer : (m : Bytes) (read : Message) → Offer
 message_offer m (read.Refused number) = offers.Refused number
-message_offer m (read.Read exchange count) = if eqb (length (sa_from count 0 m)) 0 then offers.Refused 16 else offers.Readable exchange count
+message_offer m (read.Read exchange count) = if eqb (length (sa_from count 0 m)) 0 then offers.Refused 16 otherwise offers.Readable exchange count
 
 unfoldable pub book_offer : (m : Bytes) (read : Book) → Offer
 book_offer m (books.Refused number) = offers.Refused number
@@ -43,9 +43,9 @@ is_place body at =
 unfoldable pub cause_in : (exchange : ℕ) (book body : Bytes) (at : Places) → Why
 cause_in exchange book body at =
     if leb (line_count exchange book) at.line then NoSuchPlace
-    else if not (is_place body at) then NoSuchPlace
-    else if not (protocols_suit exchange at.line book (set at.set body)) then Protocols
-    else Transform (transform_cause exchange at.line book (protocol (proposal at.proposal (set at.set body)))
+    otherwise if not (is_place body at) then NoSuchPlace
+    otherwise if not (protocols_suit exchange at.line book (set at.set body)) then Protocols
+    otherwise Transform (transform_cause exchange at.line book (protocol (proposal at.proposal (set at.set body)))
     (transform at.transform (proposal at.proposal (set at.set body))))
 
 unfoldable pub offer_cause : (book m : Bytes) (at : Places) (read : Offer) → Why

@@ -1,7 +1,7 @@
 -- What arrives at port 4500, document 01, "Port 4500".
 use Rattle.std.specs.Prelude.{◌-◌, [], ◌∷◌, length, take, drop, ltb}
 use Rattle.wire_read.specs.Wire.{Bytes, equal}
-use Rattle.wire_read.specs.Tests.{if◌then◌else◌}
+use Rattle.wire_read.specs.Tests.{if◌then◌otherwise◌}
 use Rattle.wire_read.specs.Answer.{Answer, done, refused}
 use Rattle.port4500.specs.declared.Datagram.{Datagram}
 use Rattle.port4500.specs.declared.Datagram.TheVariants.{Keepalive, KeyExchange, Esp, Refused}
@@ -15,9 +15,9 @@ marker = 0 ∷ 0 ∷ 0 ∷ 0 ∷ []
 unfoldable pub datagram : (s : Bytes) → Datagram
 datagram s =
     if equal s (255 ∷ []) then Keepalive
-    else if ltb (length s) 4 then Refused 16
-    else if equal (take 4 s) marker then KeyExchange 4 (length s - 4)
-    else Esp (length s)
+    otherwise if ltb (length s) 4 then Refused 16
+    otherwise if equal (take 4 s) marker then KeyExchange 4 (length s - 4)
+    otherwise Esp (length s)
 
 -- the part that is handed on: the rest of a key exchange, an ESP packet whole, nothing else
 unfoldable pub handed_on : (datagram : Datagram) (s : Bytes) → Bytes

@@ -1,7 +1,7 @@
 -- Captures: no two answers of one type have the same number and values.
 use Rattle.std.specs.Prelude.{ℕ, ◌-◌, ◌≡◌, refl, Bool, length, get_or, eqb, leb}
 use Rattle.std.proofs.Common.{sym, ap, ◌∙◌}
-use Rattle.wire_read.specs.Tests.{if◌then◌else◌}
+use Rattle.wire_read.specs.Tests.{if◌then◌otherwise◌}
 use Rattle.wire_read.specs.Answer.{Answer}
 use Rattle.sequence_record.specs.declared.Verdict.{Verdict}
 use Rattle.sequence_record.specs.declared.Verdict.TheVariants as Verdicts
@@ -37,8 +37,8 @@ is_kind a kind = eqb (value a 0) kind
 abbrev file_header_meant : (a : Answer) → FileHeader
 file_header_meant a =
     if eqb (length a.values) 0 then Files.Refused a.number
-    else if is_kind a 1 then Files.Read Big
-    else Files.Read Little
+    otherwise if is_kind a 1 then Files.Read Big
+    otherwise Files.Read Little
 
 file_header-meant : (x : FileHeader) → file_header_meant (file_header_answer x) ≡ x
 unfolding file_header_answer
@@ -52,8 +52,8 @@ file_header-own x y h = sym (file_header-meant x) ∙ ap file_header_meant h ∙
 abbrev record_header_meant : (a : Answer) → RecordHeader
 record_header_meant a =
     if eqb (length a.values) 0 then Records.Refused a.number
-    else if is_kind a 1 then Records.Read (value a 1) (value a 2) (value a 3) (value a 4)
-    else Records.CutShort
+    otherwise if is_kind a 1 then Records.Read (value a 1) (value a 2) (value a 3) (value a 4)
+    otherwise Records.CutShort
 
 record_header-meant : (x : RecordHeader) → record_header_meant (record_header_answer x) ≡ x
 unfolding record_header_answer
@@ -67,13 +67,13 @@ record_header-own x y h = sym (record_header-meant x) ∙ ap record_header_meant
 abbrev header_cause_meant : (a : Answer) → HeaderCause
 header_cause_meant a =
     if is_kind a 1 then Causes.Nothing
-    else if is_kind a 2 then Causes.Short
-    else if is_kind a 3 then Causes.Pcapng
-    else if is_kind a 4 then Causes.Nanoseconds
-    else if is_kind a 5 then Causes.Version (value a 1) (value a 2)
-    else if is_kind a 6 then Causes.CheckSequences
-    else if is_kind a 7 then Causes.LinkType (value a 1)
-    else Causes.NoCapture
+    otherwise if is_kind a 2 then Causes.Short
+    otherwise if is_kind a 3 then Causes.Pcapng
+    otherwise if is_kind a 4 then Causes.Nanoseconds
+    otherwise if is_kind a 5 then Causes.Version (value a 1) (value a 2)
+    otherwise if is_kind a 6 then Causes.CheckSequences
+    otherwise if is_kind a 7 then Causes.LinkType (value a 1)
+    otherwise Causes.NoCapture
 
 header_cause_meant_lem : (x : HeaderCause) → header_cause_meant (header_cause_answer x) ≡ x
 unfolding header_cause_answer
@@ -103,14 +103,14 @@ part_meant a = record { start = value a 3; length = value a 4 }
 abbrev frame_meant : (a : Answer) → Frame
 frame_meant a =
     if is_kind a 1 then Frames.CutShort
-    else if is_kind a 2 then Frames.NotIpv4
-    else if is_kind a 3 then Frames.Fragment (addresses_meant a)
-    else if is_kind a 4 then Frames.OtherProtocol (addresses_meant a) (value a 3)
-    else if is_kind a 5 then Frames.OtherPorts (addresses_meant a) (ports_meant a)
-    else if is_kind a 6 then Frames.Message (addresses_meant a) (part_meant a)
-    else if is_kind a 7 then Frames.Datagram (addresses_meant a) (part_meant a)
-    else if is_kind a 8 then Frames.Ah (addresses_meant a) (part_meant a)
-    else Frames.Esp (addresses_meant a) (part_meant a)
+    otherwise if is_kind a 2 then Frames.NotIpv4
+    otherwise if is_kind a 3 then Frames.Fragment (addresses_meant a)
+    otherwise if is_kind a 4 then Frames.OtherProtocol (addresses_meant a) (value a 3)
+    otherwise if is_kind a 5 then Frames.OtherPorts (addresses_meant a) (ports_meant a)
+    otherwise if is_kind a 6 then Frames.Message (addresses_meant a) (part_meant a)
+    otherwise if is_kind a 7 then Frames.Datagram (addresses_meant a) (part_meant a)
+    otherwise if is_kind a 8 then Frames.Ah (addresses_meant a) (part_meant a)
+    otherwise Frames.Esp (addresses_meant a) (part_meant a)
 
 frame-meant : (x : Frame) → frame_meant (frame_answer x) ≡ x
 unfolding frame_answer
@@ -129,21 +129,21 @@ frame-own x y h = sym (frame-meant x) ∙ ap frame_meant h ∙ frame-meant y
 
 -- a verdict's number stands before a place; what is accepted has its rise there
 abbrev verdict_meant : (a : Answer) (place : ℕ) → Verdict
-verdict_meant a place = if leb (length a.values) place then Verdicts.Refused (value a (place - 1)) else Verdicts.Accepted (value a place)
+verdict_meant a place = if leb (length a.values) place then Verdicts.Refused (value a (place - 1)) otherwise Verdicts.Accepted (value a place)
 
 abbrev listed_meant : (a : Answer) → Listed
 listed_meant a =
     if is_kind a 1 then Lines.CutShort
-    else if is_kind a 2 then Lines.NotIpv4
-    else if is_kind a 3 then Lines.Fragment (addresses_meant a)
-    else if is_kind a 4 then Lines.OtherProtocol (addresses_meant a) (value a 3)
-    else if is_kind a 5 then Lines.OtherPorts (addresses_meant a) (ports_meant a)
-    else if is_kind a 6 then Lines.Keepalive (addresses_meant a)
-    else if is_kind a 7 then Lines.Enciphered (addresses_meant a) (value a 3) (value a 4)
-    else if is_kind a 8 then Lines.Read (addresses_meant a) (value a 3) (value a 4)
-    else if is_kind a 9 then Lines.Refused (addresses_meant a) (value a 3)
-    else if is_kind a 10 then Lines.ShortPacket (addresses_meant a) (value a 3) (verdict_meant a 5)
-    else Lines.Packet (addresses_meant a) (value a 3) (value a 4) (value a 5) (verdict_meant a 7)
+    otherwise if is_kind a 2 then Lines.NotIpv4
+    otherwise if is_kind a 3 then Lines.Fragment (addresses_meant a)
+    otherwise if is_kind a 4 then Lines.OtherProtocol (addresses_meant a) (value a 3)
+    otherwise if is_kind a 5 then Lines.OtherPorts (addresses_meant a) (ports_meant a)
+    otherwise if is_kind a 6 then Lines.Keepalive (addresses_meant a)
+    otherwise if is_kind a 7 then Lines.Enciphered (addresses_meant a) (value a 3) (value a 4)
+    otherwise if is_kind a 8 then Lines.Read (addresses_meant a) (value a 3) (value a 4)
+    otherwise if is_kind a 9 then Lines.Refused (addresses_meant a) (value a 3)
+    otherwise if is_kind a 10 then Lines.ShortPacket (addresses_meant a) (value a 3) (verdict_meant a 5)
+    otherwise Lines.Packet (addresses_meant a) (value a 3) (value a 4) (value a 5) (verdict_meant a 7)
 
 listed-meant : (x : Listed) → listed_meant (listed_answer x) ≡ x
 unfolding listed_answer verdict_answer

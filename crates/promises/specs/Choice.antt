@@ -8,7 +8,7 @@ use Rattle.std.proofs.Math.Path.{ap}
 use native.Mathlib.Omega.{arith}
 use borrow.Author.Tests.{eq-eqb, ne_eqb}
 use Rattle.wire_read.specs.Wire.{Bytes}
-use Rattle.wire_read.specs.Tests.{if◌then◌else◌}
+use Rattle.wire_read.specs.Tests.{if◌then◌otherwise◌}
 use Rattle.wire_read.specs.Answer.{Answer, done, refused}
 use Rattle.wire_read.proofs.Tests.{never, by_test}
 use Rattle.message_chain.specs.Message.{message, message_answer}
@@ -97,7 +97,7 @@ module _ (exchange : ℕ) (book body : Bytes) (reads : offer_code exchange body 
         go (suc (suc j)) l = absurd (omega arith)
 
     abbrev numbers : List ℕ
-    numbers = if eqb (proposal_count (set k body)) 1 then number 0 ∷ [] else number 0 ∷ number 1 ∷ []
+    numbers = if eqb (proposal_count (set k body)) 1 then number 0 ∷ [] otherwise number 0 ∷ number 1 ∷ []
 
     lowest_in_each : Lowest exchange i book (set k body) numbers
     lowest_in_each =
@@ -158,8 +158,8 @@ value-at a n = get_or a.values n 0
 abbrev meant : (a : Answer) → Choice
 meant a =
     if eqb (length a.values) 0 then Refused a.number
-    else if eqb (length a.values) 3 then Chosen (record { 0 = value-at a 0 }) (record { 0 = value-at a 1 }) (One (record { 0 = value-at a 2 }))
-    else Chosen (record { 0 = value-at a 0 }) (record { 0 = value-at a 1 }) (Two (record { 0 = value-at a 2 }) (record { 0 = value-at a 3 }))
+    otherwise if eqb (length a.values) 3 then Chosen (record { 0 = value-at a 0 }) (record { 0 = value-at a 1 }) (One (record { 0 = value-at a 2 }))
+    otherwise Chosen (record { 0 = value-at a 0 }) (record { 0 = value-at a 1 }) (Two (record { 0 = value-at a 2 }) (record { 0 = value-at a 3 }))
 
 meant-answer : (c : Choice) → meant (choice_answer c) ≡ c
 unfolding choice_answer

@@ -14,7 +14,7 @@ use Rattle.std.proofs.Math.Dec.{ltb}
 use borrow.Author.Tests.{eq-eqb, ne_eqb, eqb-false, ltb-false, le-ltb}
 use Rattle.wire_read.specs.Wire.{Bytes}
 use Rattle.wire_read.specs.Answer.{Answer, done, refused}
-use Rattle.wire_read.specs.Tests.{if◌then◌else◌}
+use Rattle.wire_read.specs.Tests.{if◌then◌otherwise◌}
 use Rattle.wire_read.proofs.Tests.{never, by_test}
 use Rattle.wire_write.proofs.Laws.{paste_inside}
 use Rattle.message_header.specs.Header.{exchange_of}
@@ -117,7 +117,7 @@ unfolding reply_refused message_offer
 reply_unread m number (unread-message e) = rw e
 reply_unread m number (without_sa {count = count} e z) = rw (e, eq-eqb (length (sa_from count 0 m)) 0 z)
 
-book-of : (booked : Bool) (book : Bytes) → LawfulBook booked book → (if booked then book_refused (book_read book) else Nothing) ≡ Nothing
+book-of : (booked : Bool) (book : Bytes) → LawfulBook booked book → (if booked then book_refused (book_read book) otherwise Nothing) ≡ Nothing
 unfolding book_refused
 book-of true book b = let (main, quick, e) = b refl in rw e
 book-of false book b = refl
@@ -125,10 +125,10 @@ book-of false book b = refl
 -- between two recordings that read only their SA payloads' bodies count, and the book
 by_bodies : (booked : Bool) (book : Bytes) {offer reply : Bytes} (o : HasSa offer) (r : HasSa reply) →
     first_difference booked book offer reply
-    ≡ ((if booked then book_refused (book_read book) else Nothing) or_else compared booked o.exchange book (body o) (body r))
+    ≡ ((if booked then book_refused (book_read book) otherwise Nothing) or_else compared booked o.exchange book (body o) (body r))
 unfolding first_difference unread ◌or_else◌
 by_bodies booked book o r =
-    rw (offer-read o, reply_read r, all-payloads o, all-payloads r, its_exchange o, ← else_last (if booked then book_refused (book_read book) else Nothing))
+    rw (offer-read o, reply_read r, all-payloads o, all-payloads r, its_exchange o, ← else_last (if booked then book_refused (book_read book) otherwise Nothing))
 
 -- ---- "Refusals: those of reading the offer (16 without an SA), then of the book, then of the reply (likewise)"
 

@@ -1,7 +1,7 @@
 -- Lawful replies: no two answers of one type have the same number and values.
 use Rattle.std.specs.Prelude.{◌≡◌, refl, length, eqb}
 use Rattle.std.proofs.Common.{sym, ap, ◌∙◌}
-use Rattle.wire_read.specs.Tests.{if◌then◌else◌}
+use Rattle.wire_read.specs.Tests.{if◌then◌otherwise◌}
 use Rattle.wire_read.specs.Answer.{Answer}
 use Rattle.policy_lawful.specs.declared.Difference.{Difference}
 use Rattle.policy_lawful.specs.declared.Difference.TheVariants.{Nothing, OfferRefused, BookRefused, ReplyRefused, SeveralSets, SetNotOffered, Protocols, Order, SeveralTransforms, TransformNotOffered, Id, Attributes, OtherSet, OtherTransform, NothingChosen}
@@ -13,7 +13,7 @@ use Rattle.promises.specs.WhyAnswers.{value, is_kind}
 -- The answer that a number and values stand for, of each type; it is the answer that they come from.
 
 abbrev lawful_meant : (a : Answer) → Lawfulness
-lawful_meant a = if eqb (length a.values) 0 then Refused a.number else Lawful
+lawful_meant a = if eqb (length a.values) 0 then Refused a.number otherwise Lawful
 
 lawful-meant : (x : Lawfulness) → lawful_meant (lawful_answer x) ≡ x
 unfolding lawful_answer
@@ -26,20 +26,20 @@ lawful-own x y h = sym (lawful-meant x) ∙ ap lawful_meant h ∙ lawful-meant y
 abbrev difference_meant : (a : Answer) → Difference
 difference_meant a =
     if is_kind a 0 1 then Nothing
-    else if is_kind a 0 2 then OfferRefused (value a 1)
-    else if is_kind a 0 3 then BookRefused (value a 1)
-    else if is_kind a 0 4 then ReplyRefused (value a 1)
-    else if is_kind a 0 5 then SeveralSets (value a 1)
-    else if is_kind a 0 6 then SetNotOffered (record { 0 = value a 1 })
-    else if is_kind a 0 7 then Protocols
-    else if is_kind a 0 8 then Order
-    else if is_kind a 0 9 then SeveralTransforms (value a 1) (value a 2)
-    else if is_kind a 0 10 then TransformNotOffered (value a 1) (record { 0 = value a 2 })
-    else if is_kind a 0 11 then Id (value a 1) (record { 0 = value a 2 }) (value a 3) (value a 4)
-    else if is_kind a 0 12 then Attributes (value a 1) (record { 0 = value a 2 })
-    else if is_kind a 0 13 then OtherSet (record { 0 = value a 1 }) (record { 0 = value a 2 })
-    else if is_kind a 0 14 then OtherTransform (value a 1) (record { 0 = value a 2 }) (record { 0 = value a 3 })
-    else NothingChosen
+    otherwise if is_kind a 0 2 then OfferRefused (value a 1)
+    otherwise if is_kind a 0 3 then BookRefused (value a 1)
+    otherwise if is_kind a 0 4 then ReplyRefused (value a 1)
+    otherwise if is_kind a 0 5 then SeveralSets (value a 1)
+    otherwise if is_kind a 0 6 then SetNotOffered (record { 0 = value a 1 })
+    otherwise if is_kind a 0 7 then Protocols
+    otherwise if is_kind a 0 8 then Order
+    otherwise if is_kind a 0 9 then SeveralTransforms (value a 1) (value a 2)
+    otherwise if is_kind a 0 10 then TransformNotOffered (value a 1) (record { 0 = value a 2 })
+    otherwise if is_kind a 0 11 then Id (value a 1) (record { 0 = value a 2 }) (value a 3) (value a 4)
+    otherwise if is_kind a 0 12 then Attributes (value a 1) (record { 0 = value a 2 })
+    otherwise if is_kind a 0 13 then OtherSet (record { 0 = value a 1 }) (record { 0 = value a 2 })
+    otherwise if is_kind a 0 14 then OtherTransform (value a 1) (record { 0 = value a 2 }) (record { 0 = value a 3 })
+    otherwise NothingChosen
 
 difference_meant_lem : (x : Difference) → difference_meant (difference_answer x) ≡ x
 unfolding difference_answer difference_values

@@ -1,7 +1,7 @@
 -- A plain window to compare with, in the words of document 02, "Five". The rule stands in crates/sequence_plain/specs/Plain.antt, both engines on the
 -- same packets in Engines.antt beside it; proofs in crates/sequence_plain.
 use Rattle.std.specs.Prelude.{ℕ, ◌≤◌, min, ◌≡◌, Bool, true, false, ◌&&◌, List, [], length, leb}
-use Rattle.wire_read.specs.Tests.{if◌then◌else◌}
+use Rattle.wire_read.specs.Tests.{if◌then◌otherwise◌}
 use Rattle.wire_read.specs.Answer.{Answer, refused}
 use Rattle.sequence_record.specs.declared.Receive.{Receive}
 use Rattle.sequence_record.specs.Receive.{new_receive, judged, verdict_answer}
@@ -24,7 +24,7 @@ module _ (list : PlainList) (long : length list ≡ 4097) (none : count_of list 
   pub engines_part : length (lent_accepted numbers) ≤ 4096 → (number : ℕ) (integrity : Bool) →
       let window : Answer = verdict_answer (judged (lent_after new_receive numbers) number integrity).verdict in
       (plain_step (plain_after list numbers) number integrity).0
-      ≡ (if is_done window && leb 4096 (length (lent_accepted numbers)) then refused 8202 else window)
+      ≡ (if is_done window && leb 4096 (length (lent_accepted numbers)) then refused 8202 otherwise window)
   engines_part = Runs.engines_part list long none numbers
 
   -- "it keeps the accepted numbers of one life as a plain list of up to 4,096": however many are shown

@@ -5,7 +5,7 @@ use Rattle.std.proofs.Math.Path.{refl, ap}
 use Rattle.std.proofs.Common.{sym, subst, ◌∙◌, arith}
 use borrow.Author.Tests.{eqb-true, eq-eqb, ne_eqb, ltb-false, not-false}
 use Rattle.wire_read.specs.Wire.{Bytes}
-use Rattle.wire_read.specs.Tests.{if◌then◌else◌}
+use Rattle.wire_read.specs.Tests.{if◌then◌otherwise◌}
 use Rattle.wire_read.specs.Answer.{Answer, done, refused}
 use Rattle.wire_read.proofs.Tests.{never, clash, both, by_test, passed}
 use Rattle.message_chain.specs.Message.{message, message_answer, payload_at}
@@ -76,7 +76,7 @@ unfolding is_longer
 count-more count h =
     by_test (eqb count 3) (λ e. omega (arith, eqb-true count 3 e)) (λ e. omega (arith, eqb-true count 5 (rw e at h)))
 
-picked : (t : Bool) (count : ℕ) → is_longer (if t then count else 0) ≡ true → (t ≡ true) × (1 < count)
+picked : (t : Bool) (count : ℕ) → is_longer (if t then count otherwise 0) ≡ true → (t ≡ true) × (1 < count)
 unfolding is_longer
 picked true count h = (refl, count-more count h)
 picked false count h = clash h

@@ -2,7 +2,7 @@
 use Rattle.std.specs.Prelude.{ℕ, ◌-◌, ◌≡◌, refl, [], ◌∷◌, ◌++◌, Bool, true, false, length, get_or, take, drop, ltb, eqb}
 use Rattle.std.proofs.Common.{sym, ap, ◌∙◌, take-append-drop, length-drop}
 use Rattle.wire_read.specs.Wire.{Bytes, equal}
-use Rattle.wire_read.specs.Tests.{if◌then◌else◌}
+use Rattle.wire_read.specs.Tests.{if◌then◌otherwise◌}
 use Rattle.wire_read.specs.Answer.{Answer, done}
 use Rattle.wire_read.proofs.Tests.{never}
 use Rattle.wire_read.proofs.Laws.{equal-true}
@@ -14,9 +14,9 @@ use Rattle.port4500.specs.declared.Datagram.TheVariants.{Keepalive, KeyExchange,
 abbrev meant : (a : Answer) → Datagram
 meant a =
     if eqb (length a.values) 0 then Refused a.number
-    else if eqb (get_or a.values 0 0) 1 then Keepalive
-    else if eqb (get_or a.values 0 0) 2 then KeyExchange (get_or a.values 1 0) (get_or a.values 2 0)
-    else Esp (get_or a.values 1 0)
+    otherwise if eqb (get_or a.values 0 0) 1 then Keepalive
+    otherwise if eqb (get_or a.values 0 0) 2 then KeyExchange (get_or a.values 1 0) (get_or a.values 2 0)
+    otherwise Esp (get_or a.values 1 0)
 
 meant-answer : (x : Datagram) → meant (datagram_answer x) ≡ x
 unfolding datagram_answer
@@ -41,7 +41,7 @@ unfolding datagram
 says s = by_tests (equal s (255 ∷ [])) (ltb (length s) 4) (equal (take 4 s) marker) refl
   where
     by_tests : (a b c : Bool) → equal (take 4 s) marker ≡ c →
-        Says s (if a then Keepalive else if b then Refused 16 else if c then KeyExchange 4 (length s - 4) else Esp (length s))
+        Says s (if a then Keepalive otherwise if b then Refused 16 otherwise if c then KeyExchange 4 (length s - 4) otherwise Esp (length s))
     by_tests true b c e = keepalive
     by_tests false true c e = short
     by_tests false false true e = behind (equal-true (take 4 s) marker e)

@@ -5,7 +5,7 @@ use Rattle.std.proofs.Math.Path.{refl, ap}
 use Rattle.std.proofs.Common.{sym, ◌∙◌}
 use Rattle.std.proofs.Math.Dec.{eqb}
 use Rattle.wire_read.specs.Wire.{Bytes}
-use Rattle.wire_read.specs.Tests.{if◌then◌else◌}
+use Rattle.wire_read.specs.Tests.{if◌then◌otherwise◌}
 use Rattle.wire_read.specs.Answer.{Answer, done, refused}
 use Rattle.wire_read.proofs.Tests.{never, by_test}
 use Rattle.policy_choice.specs.declared.Choice.{Choice}
@@ -90,7 +90,7 @@ module _ (end : End) (sent got output : Bytes) where
 -- ---- no two answers of a step have the same number and values
 
 abbrev meant : (a : Answer) → StepAnswer
-meant a = if eqb (length a.values) 0 then Refused a.number else if eqb (length a.values) 1 then Nothing else Send (get_or a.values 1 0)
+meant a = if eqb (length a.values) 0 then Refused a.number otherwise if eqb (length a.values) 1 then Nothing otherwise Send (get_or a.values 1 0)
 
 meant-answer : (x : StepAnswer) → meant (step_answer x) ≡ x
 unfolding step_answer

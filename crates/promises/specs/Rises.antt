@@ -2,7 +2,7 @@
 -- history in crates/sequence_history/specs/History.antt; proofs in crates/sequence_history.
 use Rattle.std.specs.Prelude.{ℕ, ◌+◌, ◌-◌, ◌*◌, ◌≤◌, ◌≡◌, refl, Bool, true, false, not, ◌||◌, List, [], ◌∷◌, length, eqb, leb}
 use Rattle.std.proofs.Common.{sym, ap, ◌∙◌, arith}
-use Rattle.wire_read.specs.Tests.{if◌then◌else◌}
+use Rattle.wire_read.specs.Tests.{if◌then◌otherwise◌}
 use Rattle.wire_read.specs.Answer.{done}
 use Rattle.wire_read.proofs.Tests.{clash, by_test}
 use Rattle.sequence_record.specs.declared.Receive.{Receive}
@@ -63,7 +63,7 @@ refused_carries_nothing (Refused number) h = refl
 -- "No case changes its verdict.": the number of each is the one that document 01's four cases have.
 pub no_case_changes : (numbers : List ℕ) (number : ℕ) (integrity : Bool) →
     (right_number numbers number integrity).number
-    ≡ (if eqb number 0 || leb (number + 64) (highest numbers) then 8197 else if member number numbers then 8194 else if not integrity then 24 else 0)
+    ≡ (if eqb number 0 || leb (number + 64) (highest numbers) then 8197 otherwise if member number numbers then 8194 otherwise if not integrity then 24 otherwise 0)
 unfolding right_number
 no_case_changes numbers number integrity =
     by_test (eqb number 0 || leb (number + 64) (highest numbers)) (λ b. rw b)

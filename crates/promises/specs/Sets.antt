@@ -7,7 +7,7 @@ use Rattle.std.proofs.Common.{◌∙◌, arith, length-append, take-append-drop,
 use mathlib.Core.List.{List, [], ◌∷◌, ◌++◌, append-nil, flatten, flat_map, map}
 use Rattle.std.proofs.Math.ListN.{length, get_or, length-map, get_or-map}
 use Rattle.wire_read.specs.Wire.{Bytes, number_at}
-use Rattle.wire_read.specs.Tests.{if◌then◌else◌}
+use Rattle.wire_read.specs.Tests.{if◌then◌otherwise◌}
 use Rattle.wire_read.proofs.Tests.{by_test}
 use Rattle.sa_proposals.specs.Proposals.{offer_code}
 use Rattle.sa_fields.specs.Fields.{proposal_number}
@@ -39,7 +39,7 @@ number p = (proposal_number p).0
 -- those of the proposals that have number n
 unfoldable pub numbered : (n : ℕ) (ps : List Bytes) → List Bytes
 numbered n [] = []
-numbered n (p ∷ ps) = if eqb (number p) n then p ∷ numbered n ps else numbered n ps
+numbered n (p ∷ ps) = if eqb (number p) n then p ∷ numbered n ps otherwise numbered n ps
 
 -- the proposals in s fill it, each as long as it says; their numbers never fall; and what stands between two of a number has that number
 pub record SideBySide (s : Bytes) : Type 0 where

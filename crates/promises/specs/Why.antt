@@ -8,7 +8,7 @@ use Rattle.std.proofs.Math.Path.{sym}
 use Rattle.std.proofs.Common.{ap, ◌∙◌, inl, inr, arith}
 use borrow.Author.Tests.{eqb-true, ne_eqb, lt-ltb, ltb-true, lt-leb, leb-false, not-false}
 use Rattle.wire_read.specs.Wire.{Bytes}
-use Rattle.wire_read.specs.Tests.{if◌then◌else◌}
+use Rattle.wire_read.specs.Tests.{if◌then◌otherwise◌}
 use Rattle.wire_read.specs.Answer.{Answer, done, refused}
 use Rattle.wire_read.proofs.Tests.{never, clash, both, by_test}
 use Rattle.message_chain.specs.Message.{message}

@@ -1,7 +1,7 @@
 -- Why nothing was chosen: no two answers of one type have the same number and values.
 use Rattle.std.specs.Prelude.{ℕ, ◌+◌, ◌≡◌, refl, Bool, length, get_or, eqb}
 use Rattle.std.proofs.Common.{sym, ap, ◌∙◌}
-use Rattle.wire_read.specs.Tests.{if◌then◌else◌}
+use Rattle.wire_read.specs.Tests.{if◌then◌otherwise◌}
 use Rattle.wire_read.specs.Answer.{Answer}
 use Rattle.policy_cause.specs.declared.Cause.{Cause}
 use Rattle.policy_cause.specs.declared.Cause.TheVariants as Causes
@@ -26,12 +26,12 @@ is_kind a place kind = eqb (value a place) kind
 abbrev cause_meant : (place : ℕ) (a : Answer) → Cause
 cause_meant place a =
     if is_kind a place 1 then Causes.Suits
-    else if is_kind a place 2 then Causes.Id (value a (place + 1)) (value a (place + 2))
-    else if is_kind a place 3 then Causes.Missing (value a (place + 1))
-    else if is_kind a place 4 then Causes.Value (value a (place + 1)) (value a (place + 2)) (value a (place + 3))
-    else if is_kind a place 5 then Causes.Surplus (value a (place + 1)) (value a (place + 2))
-    else if is_kind a place 6 then Causes.Seconds (value a (place + 1)) (value a (place + 2))
-    else Causes.Kilobytes
+    otherwise if is_kind a place 2 then Causes.Id (value a (place + 1)) (value a (place + 2))
+    otherwise if is_kind a place 3 then Causes.Missing (value a (place + 1))
+    otherwise if is_kind a place 4 then Causes.Value (value a (place + 1)) (value a (place + 2)) (value a (place + 3))
+    otherwise if is_kind a place 5 then Causes.Surplus (value a (place + 1)) (value a (place + 2))
+    otherwise if is_kind a place 6 then Causes.Seconds (value a (place + 1)) (value a (place + 2))
+    otherwise Causes.Kilobytes
 
 cause_meant_lem : (x : Cause) → cause_meant 0 (cause_answer x) ≡ x
 unfolding cause_answer cause_values
@@ -47,7 +47,7 @@ pub cause_own : (x y : Cause) → cause_answer x ≡ cause_answer y → x ≡ y
 cause_own x y h = sym (cause_meant_lem x) ∙ ap (cause_meant 0) h ∙ cause_meant_lem y
 
 abbrev pair_meant : (a : Answer) → PairCause
-pair_meant a = if is_kind a 0 1 then Pairs.Suits else if is_kind a 0 2 then Pairs.Protocols else Pairs.Transforms
+pair_meant a = if is_kind a 0 1 then Pairs.Suits otherwise if is_kind a 0 2 then Pairs.Protocols otherwise Pairs.Transforms
 
 pair-meant : (x : PairCause) → pair_meant (pair_answer x) ≡ x
 unfolding pair_answer
@@ -59,7 +59,7 @@ pub pair-own : (x y : PairCause) → pair_answer x ≡ pair_answer y → x ≡ y
 pair-own x y h = sym (pair-meant x) ∙ ap pair_meant h ∙ pair-meant y
 
 abbrev offer_meant : (a : Answer) → Offer
-offer_meant a = if eqb (length a.values) 0 then Offers.Refused a.number else Offers.Readable (value a 0) (value a 1)
+offer_meant a = if eqb (length a.values) 0 then Offers.Refused a.number otherwise Offers.Readable (value a 0) (value a 1)
 
 offer-meant : (x : Offer) → offer_meant (offer_answer x) ≡ x
 unfolding offer_answer
@@ -72,9 +72,9 @@ offer-own x y h = sym (offer-meant x) ∙ ap offer_meant h ∙ offer-meant y
 abbrev why_meant : (a : Answer) → Why
 why_meant a =
     if eqb (length a.values) 0 then Whys.Refused a.number
-    else if is_kind a 0 1 then Whys.NoSuchPlace
-    else if is_kind a 0 2 then Whys.Protocols
-    else Whys.Transform (cause_meant 1 a)
+    otherwise if is_kind a 0 1 then Whys.NoSuchPlace
+    otherwise if is_kind a 0 2 then Whys.Protocols
+    otherwise Whys.Transform (cause_meant 1 a)
 
 why-meant : (x : Why) → why_meant (why_answer x) ≡ x
 unfolding why_answer cause_values

@@ -8,7 +8,7 @@ use lib.ListN.{length, get_or, take, drop, length-drop}
 use lib.Dec.{eqb, leb}
 use borrow.Author.Tests.{eq-eqb, ne_eqb, eqb-true, not-false}
 use Rattle.wire_write.specs.Put.{put}
-use Rattle.wire_read.specs.Tests.{if◌then◌else◌}
+use Rattle.wire_read.specs.Tests.{if◌then◌otherwise◌}
 use Rattle.wire_write.proofs.Laws.{put-size, put-made}
 use Rattle.wire_read.proofs.Tests.{clash, both, by_test, passed}
 use Rattle.identity.specs.Identity.{identity_code, lawful, quick_data}
@@ -33,7 +33,7 @@ wrong_identities first second a b ea eb = rw (← ea, ← eb)
 
 -- ---- an identity is short
 
-picked : {A : Type 0} (t a b : Bool) → (if t then a else b) ≡ true → (a ≡ true → A) → (b ≡ true → A) → A
+picked : {A : Type 0} (t a b : Bool) → (if t then a otherwise b) ≡ true → (a ≡ true → A) → (b ≡ true → A) → A
 picked true a b e f g = f e
 picked false a b e f g = g e
 

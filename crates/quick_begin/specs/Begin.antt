@@ -1,7 +1,7 @@
 -- Begin, document 01, "Quick mode ends": what it answers, and the record and the lent buffers after it.
 use Rattle.std.specs.Prelude.{ℕ, Bool, not, ◌||◌, ◌&&◌, length, eqb}
 use Rattle.wire_read.specs.Wire.{Bytes, Code}
-use Rattle.wire_read.specs.Tests.{if◌then◌else◌}
+use Rattle.wire_read.specs.Tests.{if◌then◌otherwise◌}
 use Rattle.identity.specs.Identity.{identity_code}
 use Rattle.quick_write.specs.Messages.{book_of, lines, message_one}
 use Rattle.quick_end.specs.Fresh.{is_idle, is_initiator, is_given_up}
@@ -18,12 +18,12 @@ identities_wrong first second =
 unfoldable pub begin_code : (end : End) (id : ℕ) (first second : Bytes) (tight : Bool) → Code
 begin_code end id first second tight =
     if tight then 8192
-    else if is_given_up end.progress.state then 8196
-    else if not (is_initiator end.own.role && is_idle end.progress.state) then 8195
-    else if eqb id 0 then 9
-    else if identities_wrong first second then 18
-    else if eqb (lines (book_of end.own)) 0 then 14
-    else 0
+    otherwise if is_given_up end.progress.state then 8196
+    otherwise if not (is_initiator end.own.role && is_idle end.progress.state) then 8195
+    otherwise if eqb id 0 then 9
+    otherwise if identities_wrong first second then 18
+    otherwise if eqb (lines (book_of end.own)) 0 then 14
+    otherwise 0
 
 -- "state Sent, one send"
 unfoldable pub begun : (end : End) (id : ℕ) (first second sent got output : Bytes) → After
@@ -39,4 +39,4 @@ begun end id first second sent got output =
       agreed = end.progress.agreed;
     })
     got
-    else refusing end sent got output (begin_code end id first second (small sent got output))
+    otherwise refusing end sent got output (begin_code end id first second (small sent got output))

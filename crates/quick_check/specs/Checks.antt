@@ -1,7 +1,7 @@
 -- What the ends ask of a message that is delivered, document 01, "Quick mode ends".
 use Rattle.std.specs.Prelude.{ℕ, Bool, not, ◌&&◌, length, ltb, eqb}
 use Rattle.wire_read.specs.Wire.{Bytes, Code}
-use Rattle.wire_read.specs.Tests.{if◌then◌else◌}
+use Rattle.wire_read.specs.Tests.{if◌then◌otherwise◌}
 use Rattle.message_header.specs.Header.{flags_of, icookie_of, rcookie_of, message_id_of}
 use Rattle.message_chain.specs.declared.Message.{Message}
 use Rattle.message_chain.specs.declared.Message.TheVariants.{Refused, Read}
@@ -19,13 +19,13 @@ cookies_not_own own m = not (eqb (icookie_of m) own.icookie && eqb (rcookie_of m
 unfoldable pub quick_code : (own : Own) (state : State) (id exchange count : ℕ) (m : Bytes) → Code
 quick_code own state id exchange count m =
     if not (eqb exchange 32) then 7
-    else if not (eqb (flags_of m) 1) then 8
-    else if is_initiator own.role && is_idle state then 8195
-    else if cookies_not_own own m then 4
-    else if not (is_idle state) && not (eqb (message_id_of m) id) then 9
-    else if eqb (shape count m) 0 then 16
-    else if ltb 2048 (length m) then 30
-    else 0
+    otherwise if not (eqb (flags_of m) 1) then 8
+    otherwise if is_initiator own.role && is_idle state then 8195
+    otherwise if cookies_not_own own m then 4
+    otherwise if not (is_idle state) && not (eqb (message_id_of m) id) then 9
+    otherwise if eqb (shape count m) 0 then 16
+    otherwise if ltb 2048 (length m) then 30
+    otherwise 0
 
 -- "reading", and then these
 unfoldable pub read_code : (own : Own) (state : State) (id : ℕ) (m : Bytes) (read : Message) → Code

@@ -2,7 +2,7 @@
 use Rattle.std.specs.Prelude.{ℕ, [], Bool, not, ◌||◌, length, eqb}
 use Rattle.wire_read.specs.Wire.{Bytes, Code}
 use Rattle.wire_write.specs.Put.{paste}
-use Rattle.wire_read.specs.Tests.{if◌then◌else◌}
+use Rattle.wire_read.specs.Tests.{if◌then◌otherwise◌}
 use Rattle.message_header.specs.Header.{message_id_of}
 use Rattle.message_chain.specs.Message.{message}
 use Rattle.sa_sets.specs.Sets.{set_numbered}
@@ -28,9 +28,9 @@ use Rattle.quick_end.specs.declared.End.{End}
 abbrev pub early_code : (tight holds given_up : Bool) (rest : Code) → Code
 early_code tight holds given_up rest =
     if tight then 8192
-    else if not holds then 23
-    else if given_up then 8196
-    else rest
+    otherwise if not holds then 23
+    otherwise if given_up then 8196
+    otherwise rest
 
 -- "8192, 23, 8196, reading, .."
 unfoldable pub delivery_code : (end : End) (holds : Bool) (m : Bytes) (tight : Bool) → Code
@@ -39,7 +39,7 @@ delivery_code end holds m tight =
 
 -- the identities of a message, to be repeated: its payloads 3 and 4, no bytes where it has none
 unfoldable pub identity_at : (k : ℕ) (m : Bytes) → Bytes
-identity_at k m = if eqb (shape_of m) 5 then body_at k m else []
+identity_at k m = if eqb (shape_of m) 5 then body_at k m otherwise []
 
 -- the message 2 that answers message 1, its message ID taken and its identities repeated; s is the chosen set
 abbrev pub message_two_to : (m : Bytes) (own : Own) (transforms : Transforms) (s : Bytes) → Bytes
@@ -75,11 +75,11 @@ module _ (end : End) (m sent got output : Bytes) where
   unfoldable pub at_initiator : (state : State) → After
   at_initiator Sent =
       if not (is_longer (shape_of m)) then refusing end sent got output 8195
-      else if not (eqb (taken_code (shape_of m) kept_sent m) 0) then refusing end sent got output (taken_code (shape_of m) kept_sent m)
-      else opened
+      otherwise if not (eqb (taken_code (shape_of m) kept_sent m) 0) then refusing end sent got output (taken_code (shape_of m) kept_sent m)
+      otherwise opened
   at_initiator Open =
       if alike m kept_got then repeating end sent got output end.progress
-      else refusing end sent got output 8195
+      otherwise refusing end sent got output 8195
   at_initiator Idle = refusing end sent got output 8195
   at_initiator Half = refusing end sent got output 8195
   at_initiator GivenUp = refusing end sent got output 8195
@@ -107,14 +107,14 @@ module _ (end : End) (m sent got output : Bytes) where
   unfoldable pub at_responder : (state : State) → After
   at_responder Idle =
       if not (is_longer (shape_of m)) then refusing end sent got output 8195
-      else after_choice (choose_from 32 (book_of end.own) (body_at 1 m))
+      otherwise after_choice (choose_from 32 (book_of end.own) (body_at 1 m))
   at_responder Half =
       if alike m kept_got then repeating end sent got output end.progress
-      else if eqb (shape_of m) 1 then nothing end sent got output (with_state Open end.progress)
-      else refusing end sent got output 8195
+      otherwise if eqb (shape_of m) 1 then nothing end sent got output (with_state Open end.progress)
+      otherwise refusing end sent got output 8195
   at_responder Open =
       if alike m kept_got || eqb (shape_of m) 1 then nothing end sent got output end.progress
-      else refusing end sent got output 8195
+      otherwise refusing end sent got output 8195
   at_responder Sent = refusing end sent got output 8195
   at_responder GivenUp = refusing end sent got output 8195
 
@@ -122,5 +122,5 @@ unfoldable pub delivered : (end : End) (holds : Bool) (m sent got output : Bytes
 delivered end holds m sent got output =
     if not (eqb (delivery_code end holds m (small sent got output)) 0)
     then refusing end sent got output (delivery_code end holds m (small sent got output))
-    else if is_initiator end.own.role then at_initiator end m sent got output end.progress.state
-    else at_responder end m sent got output end.progress.state
+    otherwise if is_initiator end.own.role then at_initiator end m sent got output end.progress.state
+    otherwise at_responder end m sent got output end.progress.state

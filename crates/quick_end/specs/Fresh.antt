@@ -2,7 +2,7 @@
 use Rattle.std.specs.Prelude.{ℕ, [], Bool, true, false, not, ◌||◌, ◌&&◌, length, replicate, ltb, leb, eqb}
 use Rattle.wire_read.specs.Wire.{Bytes, Code}
 use Rattle.wire_write.specs.Put.{paste}
-use Rattle.wire_read.specs.Tests.{if◌then◌else◌}
+use Rattle.wire_read.specs.Tests.{if◌then◌otherwise◌}
 use Rattle.policy_book.specs.Book.{book_in_front}
 use Rattle.policy_lines.specs.Lines.{book_size}
 use Rattle.policy_choice.specs.declared.Transforms.TheVariants.{One}
@@ -39,10 +39,10 @@ is_given_up Open = false
 unfoldable pub fresh_code : (icookie rcookie : ℕ) (book : Bytes) (ah esp : ℕ) (nonce : Bytes) → Code
 fresh_code icookie rcookie book ah esp nonce =
     if eqb icookie 0 || eqb rcookie 0 then 4
-    else if not (book_in_front book && eqb (book_size book) (length book)) then 8193
-    else if ltb ah 256 || ltb esp 256 then 11
-    else if not (leb 8 (length nonce) && leb (length nonce) 256) then 16
-    else 0
+    otherwise if not (book_in_front book && eqb (book_size book) (length book)) then 8193
+    otherwise if ltb ah 256 || ltb esp 256 then 11
+    otherwise if not (leb 8 (length nonce) && leb (length nonce) 256) then 16
+    otherwise 0
 
 -- nothing is agreed, nothing was sent
 unfoldable pub idle : Progress
@@ -73,4 +73,4 @@ unfoldable pub fresh : (role : Role) (icookie rcookie : ℕ) (book : Bytes) (ah 
 fresh role icookie rcookie book ah esp nonce =
     if eqb (fresh_code icookie rcookie book ah esp nonce) 0
     then record { number = 0; end = record { own = own_of role icookie rcookie book ah esp nonce; progress = idle } }
-    else record { number = fresh_code icookie rcookie book ah esp nonce; end = record { own = own_of role 0 0 [] 0 0 []; progress = idle } }
+    otherwise record { number = fresh_code icookie rcookie book ah esp nonce; end = record { own = own_of role 0 0 [] 0 0 []; progress = idle } }

@@ -13,7 +13,7 @@ use lib.Dec.{leb, eqb}
 use borrow.Author.Tests.{eqb-true, leb-true, eq-eqb, ne_eqb, le-ltb, le-leb}
 use Rattle.wire_read.specs.Wire.{number_at, all_zero}
 use Rattle.wire_write.specs.Put.{bytes_of, head, headed}
-use Rattle.wire_read.specs.Tests.{if◌then◌else◌}
+use Rattle.wire_read.specs.Tests.{if◌then◌otherwise◌}
 use Rattle.wire_read.proofs.Tests.{clash, both, by_test}
 use Rattle.wire_read.proofs.Laws.{number_agree, number_past, number-drop, number-take, number_append, all_zero-true}
 use Rattle.wire_write.proofs.Laws.{number-bytes_of, length_bytes_of, length_head, length_headed, headed-lies}
@@ -486,7 +486,7 @@ unfolding type_wrong body_code
 identity_right body h = record { known = refl; passes = h }
 
 -- "Exchange 32: types 1, 4, 5, 6, 7, 8 with 4, 8, 16, 32, 8, 32"
-data_few : (test : Bool) (size n : ℕ) (others : Bool) → n ≤ 32 → (others ≡ true → size ≤ 32) → (if test then eqb size n else others) ≡ true → size ≤ 32
+data_few : (test : Bool) (size n : ℕ) (others : Bool) → n ≤ 32 → (others ≡ true → size ≤ 32) → (if test then eqb size n otherwise others) ≡ true → size ≤ 32
 data_few true size n others few rest h = omega (arith, eqb-true size n h)
 data_few false size n others few rest h = rest h
 
@@ -500,7 +500,7 @@ quick-few type s =
     (data_few (eqb type 7) (length s) 8 _ (omega arith)
     (data_few (eqb type 8) (length s) 32 false (omega arith) (λ h. clash h))))))
 
-lawful-held : (test : Bool) (number : ℕ) → 0 < number → (if test then 0 else number) ≡ 0 → test ≡ true
+lawful-held : (test : Bool) (number : ℕ) → 0 < number → (if test then 0 otherwise number) ≡ 0 → test ≡ true
 lawful-held true number some h = refl
 lawful-held false number some h = absurd (omega arith)
 

@@ -8,7 +8,7 @@ use lib.ListN.{length}
 use lib.Dec.{eqb}
 use Rattle.wire_read.specs.Wire.{number_at}
 use Rattle.wire_write.specs.Put.{bytes_of}
-use Rattle.wire_read.specs.Tests.{if◌then◌else◌}
+use Rattle.wire_read.specs.Tests.{if◌then◌otherwise◌}
 use Rattle.identity.specs.Identity.{identity_code}
 use Rattle.message_header.specs.Header.{flags_of}
 use Rattle.message_chain.specs.Message.{message}
@@ -41,7 +41,7 @@ Identities first second = ((first ≡ []) × (second ≡ [])) ⊎ ((identity_cod
 
 -- how many payloads a message of the longer shape has
 unfoldable pub payloads_with : List ℕ → ℕ
-payloads_with first = if eqb (length first) 0 then 3 else 5
+payloads_with first = if eqb (length first) 0 then 3 otherwise 5
 
 -- the body of an SA payload with these proposals
 abbrev pub sa_body : List ℕ → List ℕ

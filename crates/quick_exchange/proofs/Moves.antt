@@ -10,7 +10,7 @@ use lib.Seq.{length-take-le}
 use lib.Dec.{ltb, eqb}
 use borrow.Author.Tests.{eqb-true, eqb-false, eq-eqb, ltb-false, le-ltb, not-false}
 use Rattle.wire_write.specs.Put.{paste}
-use Rattle.wire_read.specs.Tests.{if◌then◌else◌}
+use Rattle.wire_read.specs.Tests.{if◌then◌otherwise◌}
 use Rattle.wire_read.specs.Answer.{Answer, refused}
 use Rattle.wire_read.proofs.Tests.{never, clash, both, neither, by_test, passed}
 use Rattle.wire_write.proofs.Laws.{paste_inside}
@@ -292,7 +292,7 @@ module _ (p : Party) (output : List ℕ) (A : After → Type 0) (refused : (numb
   pub by-delivery : (m : List ℕ) (holds : Bool) →
       (FullSize p output → holds ≡ true →
       A (if is_initiator p.end.own.role then at_initiator p.end m p.sent p.got output (state_of p)
-      else at_responder p.end m p.sent p.got output (state_of p))) →
+      otherwise at_responder p.end m p.sent p.got output (state_of p))) →
       A (delivered p.end holds m p.sent p.got output)
   unfolding delivered delivery_code
   by-delivery m holds taken =

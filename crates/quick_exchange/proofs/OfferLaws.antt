@@ -11,7 +11,7 @@ use lib.Dec.{ltb, leb, eqb}
 use borrow.Author.Tests.{ltb-false, eq-eqb, ne_eqb, le-ltb, lt-leb}
 use Rattle.wire_read.specs.Wire.{number_at}
 use Rattle.wire_write.specs.Put.{bytes_of, head, headed}
-use Rattle.wire_read.specs.Tests.{if◌then◌else◌}
+use Rattle.wire_read.specs.Tests.{if◌then◌otherwise◌}
 use Rattle.wire_read.proofs.Tests.{by_test}
 use Rattle.wire_read.proofs.Laws.{number_append, number-append_add}
 use Rattle.wire_write.proofs.Laws.{number-bytes_of, length_bytes_of, length_headed, headed-lies}
@@ -281,7 +281,7 @@ module _ (ah esp : ℕ) (book : List ℕ) (right-ah : (256 ≤ ah) × (ah < 4294
   line_items : ℕ → ℕ → List (List ℕ)
   line_items next i =
       if eqb (quick_protocols i book) 1 then line_proposal ah esp next 3 i book ∷ []
-      else line_proposal ah esp 2 2 i book ∷ line_proposal ah esp next 3 i book ∷ []
+      otherwise line_proposal ah esp 2 2 i book ∷ line_proposal ah esp next 3 i book ∷ []
 
   module _ (next i : ℕ) where
     line-whole : flatten (line_items next i) ≡ line_set ah esp next i book

@@ -12,7 +12,7 @@ use lib.Seq.{get_or-drop, drop-drop}
 use lib.Dec.{ltb, eqb}
 use borrow.Author.Tests.{eqb-true, eqb-false, ltb-false, not-false}
 use Rattle.wire_read.specs.Wire.{number_at}
-use Rattle.wire_read.specs.Tests.{if◌then◌else◌}
+use Rattle.wire_read.specs.Tests.{if◌then◌otherwise◌}
 use Rattle.wire_read.proofs.Tests.{never, clash, both, neither, by_test, passed}
 use Rattle.wire_read.proofs.Laws.{number-drop}
 use Rattle.identity.specs.Identity.{identity_code}
@@ -132,7 +132,7 @@ pub record Offering (m : List ℕ) : Type 0 where
   pub identities : Identities (identity_at 3 m) (identity_at 4 m)
 
 -- a longer shape is the count of payloads
-count-of : (t : Bool) (count : ℕ) → is_longer (if t then count else 0) ≡ true → (t ≡ true) × ((if t then count else 0) ≡ count) × ((count ≡ 3) ⊎ (count ≡ 5))
+count-of : (t : Bool) (count : ℕ) → is_longer (if t then count otherwise 0) ≡ true → (t ≡ true) × ((if t then count otherwise 0) ≡ count) × ((count ≡ 3) ⊎ (count ≡ 5))
 unfolding is_longer
 count-of true count h = (refl, refl, by_test (eqb count 3) (λ e. inl (eqb-true count 3 e)) (λ e. inr (eqb-true count 5 (rw e at h))))
 count-of false count h = clash h

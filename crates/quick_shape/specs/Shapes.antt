@@ -1,7 +1,7 @@
 -- The shape of a message, and what is read by it, document 01, "Quick mode ends".
 use Rattle.std.specs.Prelude.{ℕ, [], Bool, ◌||◌, ◌&&◌, length, take, drop, eqb}
 use Rattle.wire_read.specs.Wire.{Bytes, equal}
-use Rattle.wire_read.specs.Tests.{if◌then◌else◌}
+use Rattle.wire_read.specs.Tests.{if◌then◌otherwise◌}
 use Rattle.message_chain.specs.Message.{message, payload_at}
 use Rattle.message_chain.specs.declared.Message.{Message}
 use Rattle.message_chain.specs.declared.Message.TheVariants.{Refused, Read}
@@ -18,7 +18,7 @@ unfoldable pub shape : (count : ℕ) (m : Bytes) → ℕ
 shape count m =
     if type_is 0 m 8
     && (eqb count 1 || type_is 1 m 1 && type_is 2 m 10 && (eqb count 3 || eqb count 5 && type_is 3 m 5 && type_is 4 m 5))
-    then count else 0
+    then count otherwise 0
 
 -- "either longer shape"
 unfoldable pub is_longer : (shape : ℕ) → Bool
@@ -41,7 +41,7 @@ shape_of m = shape (count_of (message m)) m
 -- "hand back the nonce body as it stands in that role's message, or an empty part unless it reads as exchange 32 in either longer shape"
 unfoldable pub nonce_read : (m : Bytes) (read : Message) → Bytes
 nonce_read m (Refused number) = []
-nonce_read m (Read exchange count) = if eqb exchange 32 && is_longer (shape count m) then body_at 2 m else []
+nonce_read m (Read exchange count) = if eqb exchange 32 && is_longer (shape count m) then body_at 2 m otherwise []
 
 unfoldable pub nonce_in : (m : Bytes) → Bytes
 nonce_in m = nonce_read m (message m)

@@ -1,7 +1,7 @@
 -- Message 2 at an initiator that sent message 1, document 01, "Quick mode ends".
 use Rattle.std.specs.Prelude.{ℕ, Bool, not, ◌||◌, ◌&&◌, eqb}
 use Rattle.wire_read.specs.Wire.{Bytes, Code, equal}
-use Rattle.wire_read.specs.Tests.{if◌then◌else◌}
+use Rattle.wire_read.specs.Tests.{if◌then◌otherwise◌}
 use Rattle.sa_fields.specs.Fields.{proposal_number, protocol, transform_count}
 use Rattle.sa_sets.specs.Sets.{set, set_count, set_numbered}
 use Rattle.sa_items.specs.Items.{proposal, proposal_count, transform}
@@ -35,8 +35,8 @@ identities_same found sent m =
 unfoldable pub taken_code : (found : ℕ) (sent m : Bytes) → Code
 taken_code found sent m =
     if not (eqb (set_count (body_at 1 m)) 1 && set_taken (replied_set m) (offered_set sent m)) then 15
-    else if not (identities_same found sent m) then 18
-    else 0
+    otherwise if not (identities_same found sent m) then 18
+    otherwise 0
 
 -- what is agreed, of the message sent and message 2
 unfoldable pub agreed_two : (sent m : Bytes) → Agreed

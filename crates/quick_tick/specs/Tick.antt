@@ -1,7 +1,7 @@
 -- A tick, document 01, "Quick mode ends": what it answers, and the record and the lent buffers after it.
 use Rattle.std.specs.Prelude.{◌+◌, Bool, true, false, not, ltb, eqb}
 use Rattle.wire_read.specs.Wire.{Bytes, Code}
-use Rattle.wire_read.specs.Tests.{if◌then◌else◌}
+use Rattle.wire_read.specs.Tests.{if◌then◌otherwise◌}
 use Rattle.quick_end.specs.Fresh.{is_idle, is_given_up}
 use Rattle.quick_step.specs.Steps.{After, small, with_state, refusing, nothing, repeating}
 use Rattle.quick_end.specs.declared.State.{State}
@@ -11,7 +11,7 @@ use Rattle.quick_end.specs.declared.End.{End}
 
 -- "8192, 8196, Idle 8195"
 unfoldable pub tick_code : (state : State) (tight : Bool) → Code
-tick_code state tight = if tight then 8192 else if is_given_up state then 8196 else if is_idle state then 8195 else 0
+tick_code state tight = if tight then 8192 otherwise if is_given_up state then 8196 otherwise if is_idle state then 8195 otherwise 0
 
 unfoldable pub one_more : (progress : Progress) → Progress
 one_more progress = record {
@@ -35,6 +35,6 @@ unfoldable pub ticked : (end : End) (sent got output : Bytes) → After
 ticked end sent got output =
     if not (eqb (tick_code end.progress.state (small sent got output)) 0)
     then refusing end sent got output (tick_code end.progress.state (small sent got output))
-    else if is_open end.progress.state then nothing end sent got output end.progress
-    else if ltb end.progress.sends 4 then repeating end sent got output (one_more end.progress)
-    else nothing end sent got output (with_state GivenUp end.progress)
+    otherwise if is_open end.progress.state then nothing end sent got output end.progress
+    otherwise if ltb end.progress.sends 4 then repeating end sent got output (one_more end.progress)
+    otherwise nothing end sent got output (with_state GivenUp end.progress)

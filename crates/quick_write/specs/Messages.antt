@@ -2,7 +2,7 @@
 use Rattle.std.specs.Prelude.{ℕ, zero, suc, min, ◌+◌, ◌-◌, ◌%◌, [], ◌∷◌, ◌++◌, Bool, ◌||◌, ◌&&◌, length, take, replicate, ltb, leb, eqb}
 use Rattle.wire_read.specs.Wire.{Bytes}
 use Rattle.wire_write.specs.Put.{bytes_of, headed, paste, put}
-use Rattle.wire_read.specs.Tests.{if◌then◌else◌}
+use Rattle.wire_read.specs.Tests.{if◌then◌otherwise◌}
 use Rattle.policy_lines.specs.Lines.{quick_count, quick_protocols, quick_mode, quick_seconds}
 use Rattle.policy_suits.specs.Suits.{quick_id}
 use Rattle.policy_reply.specs.Reply.{own_spi, proposal_of, set_reply, sa_of}
@@ -26,7 +26,7 @@ fixed attributetype value = 0x80 ∷ attributetype ∷ 0 ∷ value ∷ []
 
 -- "5 where there is one": not in an ESP that goes with AH
 unfoldable pub authentication : (protocols protocol : ℕ) → Bytes
-authentication protocols protocol = if eqb protocols 2 && eqb protocol 3 then [] else fixed 5 20
+authentication protocols protocol = if eqb protocols 2 && eqb protocol 3 then [] otherwise fixed 5 20
 
 -- "the suiting attributes with the line's seconds, sent fixed, in the order 4, 5 where there is one, 1, 2"
 unfoldable pub attributes : (protocol i : ℕ) (book : Bytes) → Bytes
@@ -45,11 +45,11 @@ line_proposal ah esp next protocol i book = proposal_of next (i + 1) protocol (o
 unfoldable pub line_set : (ah esp next i : ℕ) (book : Bytes) → Bytes
 line_set ah esp next i book =
     if eqb (quick_protocols i book) 1 then line_proposal ah esp next 3 i book
-    else line_proposal ah esp 2 2 i book ++ line_proposal ah esp next 3 i book
+    otherwise line_proposal ah esp 2 2 i book ++ line_proposal ah esp next 3 i book
 
 -- what follows the first of n sets: 2, or 0 where it is the last
 unfoldable pub next_set : (n : ℕ) → ℕ
-next_set n = if leb n 1 then 0 else 2
+next_set n = if leb n 1 then 0 otherwise 2
 
 -- the sets of the n lines from i on
 unfoldable pub line_sets : (n i ah esp : ℕ) (book : Bytes) → Bytes
@@ -90,7 +90,7 @@ around own id size buffer =
 unfoldable pub nonce_and_identities : (nonce first second : Bytes) → Bytes
 nonce_and_identities nonce first second =
     if eqb (length first) 0 then headed 0 nonce
-    else headed 5 nonce ++ (headed 5 first ++ headed 0 second)
+    otherwise headed 5 nonce ++ (headed 5 first ++ headed 0 second)
 
 -- "shape 8-1-10, 8-1-10-5-5": hash, SA, nonce, identities
 unfoldable pub longer : (own : Own) (id : ℕ) (proposals first second : Bytes) → Bytes
@@ -111,7 +111,7 @@ written put = (Size put.0, put.1)
 unfoldable pub longer_into : (buffer : Bytes) (own : Own) (id : ℕ) (proposals : Proposals) (set first second : Bytes) → Written × Bytes
 longer_into buffer own id proposals set first second =
     if too_long set first second then (TooLong, buffer)
-    else written (put buffer 0 (longer own id (proposals_of own proposals set) first second))
+    otherwise written (put buffer 0 (longer own id (proposals_of own proposals set) first second))
 
 unfoldable pub message_one : (own : Own) (id : ℕ) (first second : Bytes) → Bytes
 message_one own id first second = longer own id (proposals_of own Offer []) first second

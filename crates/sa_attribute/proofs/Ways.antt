@@ -9,7 +9,7 @@ use lib.Seq.{drop-drop}
 use lib.Dec.{ltb, eqb}
 use borrow.Author.Tests.{eq-eqb, ne_eqb, lt-ltb, le-ltb}
 use Rattle.wire_read.specs.Wire.{number_at}
-use Rattle.wire_read.specs.Tests.{if◌then◌else◌}
+use Rattle.wire_read.specs.Tests.{if◌then◌otherwise◌}
 use Rattle.wire_read.proofs.Laws.{number-one, number-join}
 use Rattle.sa_attribute.specs.Attributes.{sent_fixed, value, attribute_type, attribute_size, after_attribute, find}
 
@@ -52,8 +52,8 @@ module _ (a : List ℕ) (b : Bool) (eb : b ≡ sent_fixed a) where
 find-step : (left t : ℕ) (s : List ℕ) → (left ≡ 0 → ⊥) →
     find left t s
     ≡ (if ltb (length s) 4 then []
-    else if eqb (attribute_type s) t then take (attribute_size s) s
-    else find (left - 1) t (drop (attribute_size s) s))
+    otherwise if eqb (attribute_type s) t then take (attribute_size s) s
+    otherwise find (left - 1) t (drop (attribute_size s) s))
 unfolding find after_attribute
 find-step zero t s h = absurd (h refl)
 find-step (suc left) t s h = let i : suc left - 1 ≡ left = omega arith in rw i
@@ -78,7 +78,7 @@ module _ (left t at : ℕ) (s goal : List ℕ) (so_far : find left t (drop at s)
 
   module _ (may : left ≡ 0 → ⊥) (here : List ℕ) (eh : here ≡ drop at s) (long : 4 ≤ length here) (n u : ℕ) (en : n ≡ attribute_size here)
       (eu : u ≡ attribute_type here) where
-    step : goal ≡ (if eqb u t then take n here else find (left - 1) t (drop n here))
+    step : goal ≡ (if eqb u t then take n here otherwise find (left - 1) t (drop n here))
     step = sym so_far ∙ find-step left t (drop at s) may ∙ rw (← eh, le-ltb (length here) 4 long, ← en, ← eu)
 
     pub search_here : u ≡ t → (r : List ℕ) → r ≡ take n here → r ≡ goal

@@ -1,7 +1,7 @@
 -- The attributes of a transform, document 01, "SA payload". s begins at an attribute: type (2 bytes), then a value or a length and a value.
 use Rattle.std.specs.Prelude.{ℕ, zero, suc, min, ◌+◌, ◌%◌, [], Bool, length, get_or, take, drop, ltb, leb, eqb}
 use Rattle.wire_read.specs.Wire.{Bytes, number_at}
-use Rattle.wire_read.specs.Tests.{if◌then◌else◌}
+use Rattle.wire_read.specs.Tests.{if◌then◌otherwise◌}
 use Rattle.wire_read.specs.Parts.{parts}
 
 -- the type's first byte, and what stands behind the type
@@ -21,7 +21,7 @@ attribute_type s = number_at 2 s 0 % 0x8000
 
 -- "else a two-byte length and the value"
 unfoldable pub attribute_size : (s : Bytes) → ℕ
-attribute_size s = if sent_fixed s then 4 else 4 + value_or_length s
+attribute_size s = if sent_fixed s then 4 otherwise 4 + value_or_length s
 
 -- what follows the attribute
 unfoldable pub after_attribute : (s : Bytes) → Bytes
@@ -32,8 +32,8 @@ unfoldable pub find : (k attributetype : ℕ) (s : Bytes) → Bytes
 find zero attributetype s = []
 find (suc k) attributetype s =
     if ltb (length s) 4 then []
-    else if eqb (attribute_type s) attributetype then take (attribute_size s) s
-    else find k attributetype (after_attribute s)
+    otherwise if eqb (attribute_type s) attributetype then take (attribute_size s) s
+    otherwise find k attributetype (after_attribute s)
 
 -- the attribute of this type in a transform's attributes
 unfoldable pub attribute : (attributetype : ℕ) (s : Bytes) → Bytes
@@ -41,7 +41,7 @@ attribute attributetype s = find 16 attributetype s
 
 -- the number that an attribute's value spells; of a value over 4 bytes, which no rule asks for, the first 4
 unfoldable pub value : (a : Bytes) → ℕ
-value a = if sent_fixed a then value_or_length a else number_at (min (value_or_length a) 4) a 4
+value a = if sent_fixed a then value_or_length a otherwise number_at (min (value_or_length a) 4) a 4
 
 -- how many attributes a transform has; lawful ones are at most 16
 unfoldable pub attribute_count : (s : Bytes) → ℕ

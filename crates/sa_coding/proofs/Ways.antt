@@ -9,7 +9,7 @@ use lib.Seq.{drop-drop, take-add}
 use lib.Dec.{ltb, leb, eqb}
 use borrow.Author.Tests.{eqb-true, eqb-false, eq-eqb, ne_eqb, ltb-false, lt-ltb, le-ltb, not-true, not-false}
 use Rattle.wire_read.specs.Wire.{number_at}
-use Rattle.wire_read.specs.Tests.{if◌then◌else◌}
+use Rattle.wire_read.specs.Tests.{if◌then◌otherwise◌}
 use Rattle.wire_read.proofs.Tests.{neither, by_test, passed}
 use Rattle.sa_attribute.specs.Attributes.{sent_fixed, attribute_type, attribute_size, after_attribute}
 use Rattle.sa_coding.specs.Coding.{out_of_bounds, must_be_fixed, fixed_wrong, is_duration, duration_wrong, is_life_type, value_length, from_value, whole_value, alike, repeats, stands_wrong, attribute_code, last_code, attributes_from}
@@ -45,14 +45,14 @@ module _ (s : List ℕ) (fixed : Bool) (ef : fixed ≡ sent_fixed s) where
   unfolding from_value
   from_variable h r e = rw (← ef, h) e
 
-pub byte-none : (n : ℕ) (s : List ℕ) → n ≡ 0 → 0 ≡ (if eqb n 0 then 0 else get_or s (n - 1) 0)
+pub byte-none : (n : ℕ) (s : List ℕ) → n ≡ 0 → 0 ≡ (if eqb n 0 then 0 otherwise get_or s (n - 1) 0)
 byte-none n s z = rw (eq-eqb n 0 z)
 
-pub byte_last : (n : ℕ) (s : List ℕ) → (n ≡ 0 → ⊥) → (r : ℕ) → r ≡ get_or s (n - 1) 0 → r ≡ (if eqb n 0 then 0 else get_or s (n - 1) 0)
+pub byte_last : (n : ℕ) (s : List ℕ) → (n ≡ 0 → ⊥) → (r : ℕ) → r ≡ get_or s (n - 1) 0 → r ≡ (if eqb n 0 then 0 otherwise get_or s (n - 1) 0)
 byte_last n s h r e = rw (ne_eqb n 0 h) e
 
 -- a number is what all but its last byte spell, moved up, and the last
-number-last : (n : ℕ) (s : List ℕ) → number_at n s 0 ≡ number_at (n - 1) s 0 * 256 + (if eqb n 0 then 0 else get_or s (n - 1) 0)
+number-last : (n : ℕ) (s : List ℕ) → number_at n s 0 ≡ number_at (n - 1) s 0 * 256 + (if eqb n 0 then 0 otherwise get_or s (n - 1) 0)
 unfolding number_at
 number-last zero s = refl
 number-last (suc n) s =
@@ -79,7 +79,7 @@ module _ (n m : ℕ) (a b : List ℕ) (p q : ℕ) (so_far : eqb (number_at p a 0
       let two = neither (not (eqb p 0)) (not (eqb q 0)) h in
       rw (← so_far, eqb-true p 0 (not-false _ two.0), eqb-true q 0 (not-false _ two.1))
 
-  module _ (x y : ℕ) (ex : x ≡ (if eqb p 0 then 0 else get_or a (p - 1) 0)) (ey : y ≡ (if eqb q 0 then 0 else get_or b (q - 1) 0)) where
+  module _ (x y : ℕ) (ex : x ≡ (if eqb p 0 then 0 otherwise get_or a (p - 1) 0)) (ey : y ≡ (if eqb q 0 then 0 otherwise get_or b (q - 1) 0)) where
     split : eqb (number_at n a 0) (number_at m b 0) ≡ eqb (number_at (p - 1) a 0 * 256 + x) (number_at (q - 1) b 0 * 256 + y)
     split = rw (← so_far, number-last p a, number-last q b, ← ex, ← ey)
 
@@ -112,7 +112,7 @@ module _ (exchange : ℕ) (a s : List ℕ) (t u : ℕ) (et : t ≡ attribute_typ
 
 repeats-step : (left exchange : ℕ) (before s : List ℕ) → (left ≡ 0 → ⊥) →
     repeats left exchange before s
-    ≡ (if ltb (length before) 4 then false else alike exchange before s || repeats (left - 1) exchange (drop (attribute_size before) before) s)
+    ≡ (if ltb (length before) 4 then false otherwise alike exchange before s || repeats (left - 1) exchange (drop (attribute_size before) before) s)
 unfolding repeats after_attribute
 repeats-step zero exchange before s h = absurd (h refl)
 repeats-step (suc left) exchange before s h = let i : suc left - 1 ≡ left = omega arith in rw i
@@ -179,8 +179,8 @@ attribute-within exchange behind before s h =
 attributes-step : (left exchange : ℕ) (behind : Bool) (before s : List ℕ) → (left ≡ 0 → ⊥) →
     attributes_from left exchange behind before s
     ≡ (if eqb (length s) 0 then last_code behind
-    else if not (eqb (attribute_code exchange behind before s) 0) then attribute_code exchange behind before s
-    else attributes_from (left - 1) exchange (is_life_type exchange (attribute_type s)) (before ++ take (attribute_size s) s) (drop (attribute_size s) s))
+    otherwise if not (eqb (attribute_code exchange behind before s) 0) then attribute_code exchange behind before s
+    otherwise attributes_from (left - 1) exchange (is_life_type exchange (attribute_type s)) (before ++ take (attribute_size s) s) (drop (attribute_size s) s))
 unfolding attributes_from after_attribute
 attributes-step zero exchange behind before s h = absurd (h refl)
 attributes-step (suc left) exchange behind before s h = let i : suc left - 1 ≡ left = omega arith in rw i
@@ -220,7 +220,7 @@ module _ (left exchange at : ℕ) (behind : Bool) (all : List ℕ) (goal : ℕ)
         (ec : code ≡ attribute_code exchange behind before s) where
       turn : goal
           ≡ (if not (eqb code 0) then code
-          else attributes_from (left - 1) exchange (is_life_type exchange (attribute_type s)) (before ++ take (attribute_size s) s) (drop (attribute_size s) s))
+          otherwise attributes_from (left - 1) exchange (is_life_type exchange (attribute_type s)) (before ++ take (attribute_size s) s) (drop (attribute_size s) s))
       turn = rw (← so_far, attributes-step left exchange behind (take at all) (drop at all) may, ne_eqb (length (drop at all)) 0 some, ← es, ← eb, ← ec)
 
       pub attributes-refused : (code ≡ 0 → ⊥) → code ≡ goal

@@ -2,7 +2,7 @@
 -- attribute.
 use Rattle.std.specs.Prelude.{ℕ, zero, suc, [], ◌++◌, Bool, false, not, ◌||◌, ◌&&◌, length, take, drop, ltb, leb, eqb}
 use Rattle.wire_read.specs.Wire.{Bytes, Code, number_at}
-use Rattle.wire_read.specs.Tests.{if◌then◌else◌, ◌and_then◌}
+use Rattle.wire_read.specs.Tests.{if◌then◌otherwise◌, ◌and_then◌}
 use Rattle.sa_attribute.specs.Attributes.{sent_fixed, attribute_type, attribute_size, after_attribute, value_or_length}
 
 -- "Out of bounds"
@@ -34,10 +34,10 @@ is_life_type exchange attributetype = eqb exchange 2 && eqb attributetype 11 || 
 
 -- the number that all bytes of its value spell, in either form; nothing is cut off
 unfoldable pub value_length : (s : Bytes) → ℕ
-value_length s = if sent_fixed s then 2 else value_or_length s
+value_length s = if sent_fixed s then 2 otherwise value_or_length s
 
 unfoldable pub from_value : (s : Bytes) → Bytes
-from_value s = if sent_fixed s then drop 2 s else drop 4 s
+from_value s = if sent_fixed s then drop 2 s otherwise drop 4 s
 
 unfoldable pub whole_value : (s : Bytes) → ℕ
 whole_value s = number_at (value_length s) (from_value s) 0
@@ -51,35 +51,35 @@ unfoldable pub repeats : (k exchange : ℕ) (before s : Bytes) → Bool
 repeats zero exchange before s = false
 repeats (suc k) exchange before s =
     if ltb (length before) 4 then false
-    else alike exchange before s || repeats k exchange (after_attribute before) s
+    otherwise alike exchange before s || repeats k exchange (after_attribute before) s
 
 -- "each duration must directly follow its life type and no life type stands without one": a duration right behind a life type and nothing else
 -- there; any other attribute is no repetition of one before it
 unfoldable pub stands_wrong : (exchange : ℕ) (behind_life_type : Bool) (before s : Bytes) → Bool
 stands_wrong exchange behind_life_type before s =
     if is_duration exchange (attribute_type s) then not behind_life_type
-    else behind_life_type || repeats 16 exchange before s
+    otherwise behind_life_type || repeats 16 exchange before s
 
 -- "Out of bounds .. : 15"; "a broken or repeated pair is 15, where the single-type check stood"; "Fixed types must be sent fixed: 13 .. A life
 -- duration .. : 13". before is what stands before the attribute, and behind_life_type says whether the last there is a life type
 unfoldable pub attribute_code : (exchange : ℕ) (behind_life_type : Bool) (before s : Bytes) → Code
 attribute_code exchange behind_life_type before s =
     if out_of_bounds s then 15
-    else if stands_wrong exchange behind_life_type before s then 15
-    else if fixed_wrong exchange s then 13
-    else if duration_wrong exchange s then 13
-    else 0
+    otherwise if stands_wrong exchange behind_life_type before s then 15
+    otherwise if fixed_wrong exchange s then 13
+    otherwise if duration_wrong exchange s then 13
+    otherwise 0
 
 -- behind the last attribute: "no life type stands without" its duration
 unfoldable pub last_code : (behind_life_type : Bool) → Code
-last_code behind_life_type = if behind_life_type then 15 else 0
+last_code behind_life_type = if behind_life_type then 15 otherwise 0
 
 -- one attribute after the other, at most k, "or a 17th: 15"
 unfoldable pub attributes_from : (k exchange : ℕ) (behind_life_type : Bool) (before s : Bytes) → Code
-attributes_from zero exchange behind_life_type before s = if eqb (length s) 0 then last_code behind_life_type else 15
+attributes_from zero exchange behind_life_type before s = if eqb (length s) 0 then last_code behind_life_type otherwise 15
 attributes_from (suc k) exchange behind_life_type before s =
     if eqb (length s) 0 then last_code behind_life_type
-    else (attribute_code exchange behind_life_type before s
+    otherwise (attribute_code exchange behind_life_type before s
     and_then attributes_from k exchange (is_life_type exchange (attribute_type s)) (before ++ take (attribute_size s) s) (after_attribute s))
 
 -- 0 where the attributes of a transform are lawful, else the refusal

@@ -3,7 +3,7 @@
 
 ghost use Rattle.std.specs.Prelude.{◌≡◌, ◌-◌, get_or, eqb};
 ghost use Rattle.wire_read.specs.Wire.{number_at};
-ghost use Rattle.wire_read.specs.Tests.{if◌then◌else◌};
+ghost use Rattle.wire_read.specs.Tests.{if◌then◌otherwise◌};
 ghost use Rattle.sa_coding.specs.Coding.{out_of_bounds, must_be_fixed, fixed_wrong, is_duration, duration_wrong, is_life_type, value_length, from_value, whole_value, alike, repeats, stands_wrong, attribute_code, attributes_code};
 
 use sa_attribute::{attribute_size, attribute_type, sent_fixed};
@@ -71,7 +71,7 @@ fn from_value(s: &[u8]) -> &[u8]
 
 // The last of the first n bytes; 0 where there are none.
 fn last_byte(n: u16, s: &[u8]) -> u8
-    ensures { result ≡ (if eqb n 0 then 0 else get_or s.now (n - 1) 0) }
+    ensures { result ≡ (if eqb n 0 then 0 otherwise get_or s.now (n - 1) 0) }
 {
     if n == 0 { 0 } else { byte(s, (n - 1) as usize) }
 }

@@ -9,7 +9,7 @@ use lib.ListN.{length, get_or, drop, length-append, get_or-append, take-append-d
 use lib.Dec.{ltb, eqb}
 use borrow.Author.Tests.{eqb-true, eqb-false, eq-eqb, ne_eqb}
 use Rattle.wire_read.specs.Wire.{number_at}
-use Rattle.wire_read.specs.Tests.{if◌then◌else◌}
+use Rattle.wire_read.specs.Tests.{if◌then◌otherwise◌}
 use Rattle.wire_read.specs.Parts.{skip, parts}
 use Rattle.wire_read.proofs.Tests.{clash, neither, by_test, passed}
 use Rattle.wire_read.proofs.Parts.{parts_none, parts_more}
@@ -80,7 +80,7 @@ step {exchange} {p} i t (suc left) previous set h =
 
 -- an exchange has two protocols at most, this one and the next
 lowest : ℕ → ℕ
-lowest exchange = if eqb exchange 2 then 1 else 2
+lowest exchange = if eqb exchange 2 then 1 otherwise 2
 
 known_near : {exchange protocol : ℕ} → Known exchange protocol → (lowest exchange ≤ protocol) × (protocol ≤ lowest exchange + 1)
 unfolding lowest

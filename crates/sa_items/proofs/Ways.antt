@@ -6,7 +6,7 @@ use native.Mathlib.Omega.{arith}
 use lib.ListN.{get_or, take, drop}
 use lib.Dec.{eqb}
 use borrow.Author.Tests.{eq-eqb, ne_eqb}
-use Rattle.wire_read.specs.Tests.{if◌then◌else◌}
+use Rattle.wire_read.specs.Tests.{if◌then◌otherwise◌}
 use Rattle.wire_read.specs.Wire.{number_at}
 use Rattle.wire_read.specs.Parts.{skip}
 use Rattle.sa_fields.specs.declared.TransformNumber.{TransformNumber}
@@ -37,12 +37,12 @@ module _ (p all r : List ℕ) (ea : all ≡ transform_bytes p) where
 
 module _ (first rest : List ℕ → List ℕ) (left number : ℕ) (s : List ℕ) where
   numbered_step : (left ≡ 0 → ⊥) →
-      numbered first rest left number s ≡ (if eqb (get_or s 4 0) number then first s else numbered first rest (left - 1) number (rest s))
+      numbered first rest left number s ≡ (if eqb (get_or s 4 0) number then first s otherwise numbered first rest (left - 1) number (rest s))
   unfolding numbered
   numbered_step h = stepped left h
     where
       stepped : (n : ℕ) → (n ≡ 0 → ⊥) →
-          numbered first rest n number s ≡ (if eqb (get_or s 4 0) number then first s else numbered first rest (n - 1) number (rest s))
+          numbered first rest n number s ≡ (if eqb (get_or s 4 0) number then first s otherwise numbered first rest (n - 1) number (rest s))
       stepped zero h = absurd (h refl)
       stepped (suc n) h = let i : suc n - 1 ≡ n = omega arith in rw i
 

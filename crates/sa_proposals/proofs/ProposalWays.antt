@@ -8,7 +8,7 @@ use lib.ListN.{length, get_or, take, drop}
 use lib.Dec.{eqb, leb, ltb}
 use borrow.Author.Tests.{eq-eqb, ne_eqb, lt-ltb, le-ltb}
 use Rattle.wire_read.specs.Wire.{number_at}
-use Rattle.wire_read.specs.Tests.{if◌then◌else◌}
+use Rattle.wire_read.specs.Tests.{if◌then◌otherwise◌}
 use Rattle.sa_transforms.specs.Transforms.{transforms_code}
 use Rattle.sa_proposals.specs.Proposals.{proposal_wrong, has, with, none, set_before, order_wrong, protocol_wrong, spi_wrong, count_wrong, transform_bytes, inner_code, proposal_code, proposals_code, offer_code}
 use Rattle.sa_proposals.specs.declared.Protocols.{Protocols}
@@ -99,8 +99,8 @@ module _ (exchange previous : ℕ) (set : Protocols) (s : List ℕ) (w : Bool) (
 proposals-step : (left exchange previous : ℕ) (set : Protocols) (s : List ℕ) → (left ≡ 0 → ⊥) →
     proposals_code left exchange previous set s
     ≡ (if not (eqb (proposal_code exchange previous set s) 0) then proposal_code exchange previous set s
-    else if eqb (get_or s 0 0) 0 then (if eqb (length (drop (number_at 2 s 2) s)) 0 then 0 else 15)
-    else proposals_code (left - 1) exchange (get_or s 4 0) (with (set_before previous set (get_or s 4 0)) (get_or s 5 0)) (drop (number_at 2 s 2) s))
+    otherwise if eqb (get_or s 0 0) 0 then (if eqb (length (drop (number_at 2 s 2) s)) 0 then 0 otherwise 15)
+    otherwise proposals_code (left - 1) exchange (get_or s 4 0) (with (set_before previous set (get_or s 4 0)) (get_or s 5 0)) (drop (number_at 2 s 2) s))
 unfolding proposals_code
 proposals-step zero exchange previous set s h = absurd (h refl)
 proposals-step (suc left) exchange previous set s h = let i : suc left - 1 ≡ left = omega arith in rw i

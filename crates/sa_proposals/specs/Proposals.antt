@@ -2,7 +2,7 @@
 -- reserved (1), length (2), number (1), protocol (1), SPI size (1), count of transforms (1), SPI, transforms.
 use Rattle.std.specs.Prelude.{ℕ, zero, suc, ◌+◌, Bool, false, not, ◌||◌, ◌&&◌, length, take, drop, ltb, leb, eqb}
 use Rattle.wire_read.specs.Wire.{Bytes, Code, number_at, next_field, reserved_field, length_field}
-use Rattle.wire_read.specs.Tests.{if◌then◌else◌, ◌and_then◌}
+use Rattle.wire_read.specs.Tests.{if◌then◌otherwise◌, ◌and_then◌}
 use Rattle.sa_fields.specs.Fields.{number_field, protocol_field, spi_size_field, count_field, spi_field}
 use Rattle.sa_transforms.specs.Transforms.{transforms_code}
 use Rattle.sa_proposals.specs.declared.Protocols.{Protocols}
@@ -31,7 +31,7 @@ none = record { isakmp = false; ah = false; esp = false }
 
 -- "Proposals with equal number form one set": what the set of a proposal with this number has before it
 unfoldable pub set_before : (previous : ℕ) (set : Protocols) (number : ℕ) → Protocols
-set_before previous set number = if eqb number previous then set else none
+set_before previous set number = if eqb number previous then set otherwise none
 
 -- "a number below the one before, or a protocol already in its set"
 unfoldable pub order_wrong : (previous : ℕ) (set : Protocols) (s : Bytes) → Bool
@@ -58,30 +58,30 @@ unfoldable pub inner_code : (exchange : ℕ) (s : Bytes) → Code
 inner_code exchange s =
     transforms_code (count_field s) exchange 0 (transform_bytes s)
     and_then if eqb exchange 2 && eqb (next_field s) 2 then 15
-    else 0
+    otherwise 0
 
 -- one proposal, its checks in the document's order
 unfoldable pub proposal_code : (exchange previous : ℕ) (set : Protocols) (s : Bytes) → Code
 proposal_code exchange previous set s =
     if proposal_wrong s then 15
-    else if order_wrong previous set s then 15
-    else if protocol_wrong exchange (protocol_field s) then 10
-    else if spi_wrong exchange s then 11
-    else if count_wrong s then 15
-    else inner_code exchange s
+    otherwise if order_wrong previous set s then 15
+    otherwise if protocol_wrong exchange (protocol_field s) then 10
+    otherwise if spi_wrong exchange s then 11
+    otherwise if count_wrong s then 15
+    otherwise inner_code exchange s
 
 -- one proposal after the other, "a 17th .. : 15"; "After a proposal with next 0 nothing may remain: 15"
 unfoldable pub proposals_code : (left exchange previous : ℕ) (set : Protocols) (s : Bytes) → Code
 proposals_code zero exchange previous set s = 15
 proposals_code (suc left) exchange previous set s =
     proposal_code exchange previous set s
-    and_then if eqb (next_field s) 0 then (if eqb (length (drop (length_field s) s)) 0 then 0 else 15)
-    else proposals_code left exchange (number_field s) (with (set_before previous set (number_field s)) (protocol_field s)) (drop (length_field s) s)
+    and_then if eqb (next_field s) 0 then (if eqb (length (drop (length_field s) s)) 0 then 0 otherwise 15)
+    otherwise proposals_code left exchange (number_field s) (with (set_before previous set (number_field s)) (protocol_field s)) (drop (length_field s) s)
 
 -- "Under 8 body bytes: 15; DOI; situation. Then proposals."
 unfoldable pub offer_code : (exchange : ℕ) (s : Bytes) → Code
 offer_code exchange s =
     if ltb (length s) 8 then 15
-    else if not (eqb (doi_field s) 1) then 2
-    else if not (eqb (situation_field s) 1) then 3
-    else proposals_code 16 exchange 0 none (drop 8 s)
+    otherwise if not (eqb (doi_field s) 1) then 2
+    otherwise if not (eqb (situation_field s) 1) then 3
+    otherwise proposals_code 16 exchange 0 none (drop 8 s)

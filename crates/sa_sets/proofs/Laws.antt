@@ -9,7 +9,7 @@ use lib.Seq.{get_or-append-add, take-append_seam, drop-append_seam}
 use lib.Dec.{ltb, eqb}
 use borrow.Author.Tests.{eqb-true, eqb-false, eq-eqb, lt-ltb, le-ltb}
 use Rattle.wire_read.specs.Wire.{number_at}
-use Rattle.wire_read.specs.Tests.{if◌then◌else◌}
+use Rattle.wire_read.specs.Tests.{if◌then◌otherwise◌}
 use Rattle.wire_read.proofs.Tests.{by_test}
 use Rattle.wire_read.proofs.Laws.{number_append, number-append_add, take_within, drop-within}
 use Rattle.sa_proposals.specs.Proposals.{offer_code}
@@ -28,11 +28,11 @@ pub data Same : ℕ → List (List ℕ) → Type 0 where
 -- the proposals with number n at the front, and those behind them
 front : ℕ → List (List ℕ) → List (List ℕ)
 front n [] = []
-front n (p ∷ ps) = if eqb (get_or p 4 0) n then p ∷ front n ps else []
+front n (p ∷ ps) = if eqb (get_or p 4 0) n then p ∷ front n ps otherwise []
 
 back : ℕ → List (List ℕ) → List (List ℕ)
 back n [] = []
-back n (p ∷ ps) = if eqb (get_or p 4 0) n then back n ps else p ∷ ps
+back n (p ∷ ps) = if eqb (get_or p 4 0) n then back n ps otherwise p ∷ ps
 
 module _ (n : ℕ) where
   front_back : (ps : List (List ℕ)) → front n ps ++ back n ps ≡ ps

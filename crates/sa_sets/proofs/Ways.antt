@@ -8,7 +8,7 @@ use lib.ListN.{length, get_or, take, drop}
 use lib.Dec.{ltb, eqb}
 use borrow.Author.Tests.{lt-ltb}
 use Rattle.wire_read.specs.Wire.{number_at}
-use Rattle.wire_read.specs.Tests.{if◌then◌else◌}
+use Rattle.wire_read.specs.Tests.{if◌then◌otherwise◌}
 use Rattle.wire_read.specs.Parts.{skip, parts}
 use Rattle.sa_fields.specs.declared.ProposalNumber.{ProposalNumber}
 use Rattle.sa_items.specs.Items.{numbered}
@@ -39,7 +39,7 @@ module _ (body all : List ℕ) (ea : all ≡ drop 8 body) where
 end_step : (left number : ℕ) (s : List ℕ) (at : ℕ) → (left ≡ 0 → ⊥) →
     set_end left number s at
     ≡ (if ltb (length s) (at + 8) || not (eqb (get_or s (at + 4) 0) number) then at
-    else set_end (left - 1) number s (at + number_at 2 s (at + 2)))
+    otherwise set_end (left - 1) number s (at + number_at 2 s (at + 2)))
 unfolding set_end
 end_step zero number s at h = absurd (h refl)
 end_step (suc left) number s at h = let i : suc left - 1 ≡ left = omega arith in rw i

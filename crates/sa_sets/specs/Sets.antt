@@ -1,7 +1,7 @@
 -- The sets of an SA payload's body that reads. Of any other body these give something too, which no rule asks for.
 use Rattle.std.specs.Prelude.{ℕ, zero, suc, ◌+◌, not, ◌||◌, length, take, drop, ltb, eqb}
 use Rattle.wire_read.specs.Wire.{Bytes, length_at}
-use Rattle.wire_read.specs.Tests.{if◌then◌else◌}
+use Rattle.wire_read.specs.Tests.{if◌then◌otherwise◌}
 use Rattle.sa_fields.specs.declared.ProposalNumber.{ProposalNumber}
 use Rattle.wire_read.specs.Parts.{skip, parts}
 use Rattle.sa_fields.specs.Fields.{number_field, number_field_at}
@@ -12,7 +12,7 @@ unfoldable pub set_end : (left number : ℕ) (s : Bytes) (at : ℕ) → ℕ
 set_end zero number s at = at
 set_end (suc left) number s at =
     if ltb (length s) (at + 8) || not (eqb (number_field_at s at) number) then at
-    else set_end left number s (at + length_at s at)
+    otherwise set_end left number s (at + length_at s at)
 
 -- the set at the front of s, and what follows it
 unfoldable pub first_set : (s : Bytes) → Bytes

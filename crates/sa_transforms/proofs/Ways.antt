@@ -8,7 +8,7 @@ use lib.ListN.{length, get_or, take, drop}
 use lib.Dec.{eqb}
 use borrow.Author.Tests.{eq-eqb, ne_eqb, lt-ltb, le-ltb}
 use Rattle.wire_read.specs.Wire.{number_at}
-use Rattle.wire_read.specs.Tests.{if◌then◌else◌}
+use Rattle.wire_read.specs.Tests.{if◌then◌otherwise◌}
 use Rattle.sa_coding.specs.Coding.{attributes_code}
 use Rattle.sa_transforms.specs.Transforms.{transform_wrong, transform_code, transforms_code}
 
@@ -30,7 +30,7 @@ module _ (exchange left least : ℕ) (s : List ℕ) (w : Bool) (ew : w ≡ trans
 transforms-step : (count exchange least : ℕ) (s : List ℕ) → (count ≡ 0 → ⊥) →
     transforms_code count exchange least s
     ≡ (if not (eqb (transform_code exchange (count - 1) least s) 0) then transform_code exchange (count - 1) least s
-    else transforms_code (count - 1) exchange (get_or s 4 0 + 1) (drop (number_at 2 s 2) s))
+    otherwise transforms_code (count - 1) exchange (get_or s 4 0 + 1) (drop (number_at 2 s 2) s))
 unfolding transforms_code
 transforms-step zero exchange least s h = absurd (h refl)
 transforms-step (suc count) exchange least s h = let i : suc count - 1 ≡ count = omega arith in rw i

@@ -1,20 +1,20 @@
 -- The attributes of a transform with each life type and its duration as one whole: document 02, "free order holds for pairs as wholes".
 use Rattle.std.specs.Prelude.{ℕ, zero, suc, ◌+◌, ◌≤◌, ◌≡◌, List, [], ◌∷◌, ◌++◌, true, false, length, take, drop, eqb}
 use Rattle.wire_read.specs.Wire.{Bytes}
-use Rattle.wire_read.specs.Tests.{if◌then◌else◌}
+use Rattle.wire_read.specs.Tests.{if◌then◌otherwise◌}
 use Rattle.sa_attribute.specs.Attributes.{attribute_type, attribute_size, after_attribute}
 use Rattle.sa_coding.specs.Coding.{fixed_wrong, duration_wrong, is_life_type, is_duration, alike}
 
 -- the attribute at the front of s, and the duration behind it where it is a life type
 unfoldable pub whole_size : (exchange : ℕ) (s : Bytes) → ℕ
-whole_size exchange s = if is_life_type exchange (attribute_type s) then attribute_size s + attribute_size (after_attribute s) else attribute_size s
+whole_size exchange s = if is_life_type exchange (attribute_type s) then attribute_size s + attribute_size (after_attribute s) otherwise attribute_size s
 
 -- the wholes that lie one behind the other in s, at most k
 unfoldable pub wholes_from : (k exchange : ℕ) (s : Bytes) → List Bytes
 wholes_from zero exchange s = []
 wholes_from (suc k) exchange s =
     if eqb (length s) 0 then []
-    else take (whole_size exchange s) s ∷ wholes_from k exchange (drop (whole_size exchange s) s)
+    otherwise take (whole_size exchange s) s ∷ wholes_from k exchange (drop (whole_size exchange s) s)
 
 -- of a transform's attributes; those of one that reads are at most 16
 unfoldable pub wholes : (exchange : ℕ) (attributes : Bytes) → List Bytes
@@ -42,7 +42,7 @@ pub data Whole (exchange : ℕ) : (w : Bytes) → Type 0 where
 
 -- how many attributes a whole has, and how many they all have
 unfoldable pub attributes_in : (exchange : ℕ) (w : Bytes) → ℕ
-attributes_in exchange w = if is_life_type exchange (attribute_type w) then 2 else 1
+attributes_in exchange w = if is_life_type exchange (attribute_type w) then 2 otherwise 1
 
 unfoldable pub attributes_of_all : (exchange : ℕ) (ws : List Bytes) → ℕ
 attributes_of_all exchange [] = 0

@@ -10,7 +10,7 @@ use borrow.Author.Tests.{eq-eqb, ne_eqb, eqb-true, eqb-false, leb-true, leb-fals
 use lib.Dec.{eqb, leb, ltb, lit<}
 use lib.Pow.{pow_pos, mod-pow-add}
 use lib.Count.{ones, ones_cat}
-use Rattle.wire_read.specs.Tests.{if◌then◌else◌}
+use Rattle.wire_read.specs.Tests.{if◌then◌otherwise◌}
 use Rattle.wire_read.specs.Answer.{refused, done}
 use Rattle.wire_read.proofs.Tests.{clash, neither, by_test}
 use Rattle.sequence_record.specs.declared.Receive.{Receive}
@@ -136,7 +136,7 @@ unfolding right_number
 accepts_new numbers n integrity = of (highest (n ∷ numbers) - highest numbers) (eqb n 0 || leb (n + 64) (highest numbers)) (member n numbers) integrity
   where
     of : (rise : ℕ) (b again integrity : Bool) →
-        is_done (if b then refused 8197 else if again then refused 8194 else if not integrity then refused 24 else done (rise ∷ [])) ≡ true → again ≡ false
+        is_done (if b then refused 8197 otherwise if again then refused 8194 otherwise if not integrity then refused 24 otherwise done (rise ∷ [])) ≡ true → again ≡ false
     of rise true again integrity h = clash h
     of rise false true integrity h = clash h
     of rise false false integrity h = refl

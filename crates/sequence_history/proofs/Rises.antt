@@ -8,7 +8,7 @@ use lib.ListN.{length}
 use lib.Dec.{eqb, leb}
 use Rattle.wire_read.specs.Wire.{Bytes}
 use Rattle.wire_read.specs.Answer.{Answer, refused, done}
-use Rattle.wire_read.specs.Tests.{if◌then◌else◌}
+use Rattle.wire_read.specs.Tests.{if◌then◌otherwise◌}
 use Rattle.wire_read.proofs.Tests.{clash, by_test}
 use Rattle.sequence_record.specs.declared.Receive.{Receive}
 use Rattle.sequence_record.specs.Receive.{new_receive, behind, accepted_before, judged, verdict_answer}
@@ -35,7 +35,7 @@ right-rise numbers n integrity = of (eqb n 0 || leb (n + 64) (highest numbers)) 
   where
     answer : (b again integrity : Bool) → Answer
     answer b again integrity =
-        if b then refused 8197 else if again then refused 8194 else if not integrity then refused 24 else done (rise_by numbers n ∷ [])
+        if b then refused 8197 otherwise if again then refused 8194 otherwise if not integrity then refused 24 otherwise done (rise_by numbers n ∷ [])
 
     of : (b again integrity : Bool) → is_done (answer b again integrity) ≡ true → answer b again integrity ≡ done (rise_by numbers n ∷ [])
     of true again integrity h = clash h
@@ -55,7 +55,7 @@ module _ (past : List Event) (key : Key) where
       rw e (of (lives key past) (rw e at h))
     where
       answer : (b : Bool) → Answer
-      answer b = if not b then refused 11 else right_number (accepted key past) n integrity
+      answer b = if not b then refused 11 otherwise right_number (accepted key past) n integrity
 
       of : (b : Bool) → is_done (answer b) ≡ true → answer b ≡ done (rise_by (accepted key past) n ∷ [])
       of true h = right-rise (accepted key past) n integrity h

@@ -8,7 +8,7 @@ use native.Mathlib.Omega.{arith}
 use borrow.Author.Tests.{ne_eqb}
 use lib.ListN.{length}
 use lib.Dec.{leb}
-use Rattle.wire_read.specs.Tests.{if◌then◌else◌}
+use Rattle.wire_read.specs.Tests.{if◌then◌otherwise◌}
 use Rattle.wire_read.proofs.Tests.{never, clash, by_test}
 use Rattle.sequence_packet.specs.declared.Packet.{Packet}
 use Rattle.sequence_packet.specs.declared.Packet.TheVariants.{Read, Refused}
@@ -104,7 +104,7 @@ module _ (past : List Event) (key : Key) where
   packet_new destination protocol integrity s (Read spi n) is h e =
       of (lives key past) (rw e at h)
     where
-      of : (b : Bool) → is_done (if not b then refused 11 else right_number (accepted key past) n integrity) ≡ true → member n (accepted key past) ≡ false
+      of : (b : Bool) → is_done (if not b then refused 11 otherwise right_number (accepted key past) n integrity) ≡ true → member n (accepted key past) ≡ false
       of true h = accepts_new (accepted key past) n integrity h
       of false h = clash h
 
@@ -146,7 +146,7 @@ module _ (past : List Event) (key : Key) where
   right-next = of (lives key past) (leb 4294967295 (length (handed key past)))
     where
       answer : (a b : Bool) → Answer
-      answer a b = if not a then refused 11 else if b then refused 8198 else done ((length (handed key past) + 1) ∷ [])
+      answer a b = if not a then refused 11 otherwise if b then refused 8198 otherwise done ((length (handed key past) + 1) ∷ [])
 
       of : (a b : Bool) → is_done (answer a b) ≡ true → number_handed (answer a b) ≡ length (handed key past) + 1
       of true true h = clash h

@@ -8,7 +8,7 @@ use borrow.Author.Tests.{leb-false, ltb-false}
 use lib.ListN.{length}
 use lib.Dec.{eqb, leb, ltb}
 use Rattle.wire_read.specs.Wire.{Bytes}
-use Rattle.wire_read.specs.Tests.{if◌then◌else◌}
+use Rattle.wire_read.specs.Tests.{if◌then◌otherwise◌}
 use Rattle.wire_read.specs.Answer.{Answer, done, refused}
 use Rattle.wire_read.proofs.Tests.{never, clash, by_test}
 use Rattle.sequence_record.specs.declared.Judged.{Judged}
@@ -32,8 +32,8 @@ unread protocol s n =
     of (not (known protocol)) (eqb protocol 2) (leb 12 (length s) && eqb (ah_reserved s) 0 && leb 12 (ah_size s) && leb (ah_size s) (length s)) (leb 8 (length s))
   where
     of : (a b c d : Bool) →
-        (if a then Refused 10 else if b then (if c then Read (ah_spi s) (ah_number s) else Refused 16)
-        else (if d then Read (esp_spi s) (esp_number s) else Refused 16)) ≡ Refused n →
+        (if a then Refused 10 otherwise if b then (if c then Read (ah_spi s) (ah_number s) otherwise Refused 16)
+        otherwise (if d then Read (esp_spi s) (esp_number s) otherwise Refused 16)) ≡ Refused n →
         eqb n 0 ≡ false
     of true b c d h = let e : 10 ≡ n = cc in rw (← e)
     of false true true d h = never (cc)
@@ -105,7 +105,7 @@ module _ (t : Table) where
     apart_by (tells here) b d = apart_none b
 
     taken-by : {c : Call} {r : Answer × Table} → Does c r →
-        taken_rooms r.1 ≡ entries_after (if is_done r.0 then deed c r.0 else none) (taken_rooms t)
+        taken_rooms r.1 ≡ entries_after (if is_done r.0 then deed c r.0 otherwise none) (taken_rooms t)
     taken-by (refuses h) = rw h
     taken-by (begins-life {key = key} absent l) = taken-begun t key long l
     taken-by (ends-life {key = key} here) = taken_ended t key long here
@@ -120,7 +120,7 @@ module _ (t : Table) where
     call_apart c = apart_by (does c)
 
     pub call-taken : (c : Call) →
-        taken_rooms (answered t c).1 ≡ entries_after (if is_done (answered t c).0 then deed c (answered t c).0 else none) (taken_rooms t)
+        taken_rooms (answered t c).1 ≡ entries_after (if is_done (answered t c).0 then deed c (answered t c).0 otherwise none) (taken_rooms t)
     call-taken c = taken-by (does c)
 
   length_by : {c : Call} {r : Answer × Table} → Does c r → length r.1 ≡ length t

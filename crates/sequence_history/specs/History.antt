@@ -3,7 +3,7 @@
 use Rattle.std.specs.Prelude.{ℕ, zero, suc, ◌+◌, ◌-◌, max, min, ◌≡◌, List, [], ◌∷◌, ◌++◌, Bool, true, false, not, ◌||◌, ◌&&◌, length, get_or, drop, ltb, leb, eqb}
 use Rattle.wire_read.specs.Wire.{Bytes}
 use Rattle.wire_write.specs.Put.{bytes_of}
-use Rattle.wire_read.specs.Tests.{if◌then◌else◌}
+use Rattle.wire_read.specs.Tests.{if◌then◌otherwise◌}
 use Rattle.wire_read.specs.Answer.{Answer, done, refused}
 use Rattle.sequence_record.specs.declared.Receive.{Receive}
 use Rattle.sequence_packet.specs.declared.Packet.{Packet}
@@ -71,7 +71,7 @@ deed (sends key) a = hands (number_handed a)
 deed (asks key) a = none
 
 abbrev pub deed_for : (key : Key) (e : Event) → Deed
-deed_for key e = if is_done e.answer && same (key_of e.call) key then deed e.call e.answer else none
+deed_for key e = if is_done e.answer && same (key_of e.call) key then deed e.call e.answer otherwise none
 
 -- a life of the key runs
 abbrev pub lives_after : (d : Deed) (before : Bool) → Bool
@@ -134,7 +134,7 @@ entries_after none before = before
 
 unfoldable pub entries : (past : List Event) → ℕ
 entries [] = 0
-entries (e ∷ past) = entries_after (if is_done e.answer then deed e.call e.answer else none) (entries past)
+entries (e ∷ past) = entries_after (if is_done e.answer then deed e.call e.answer otherwise none) (entries past)
 
 -- ---- what is right of it
 
@@ -148,7 +148,7 @@ member n [] = false
 member n (x ∷ numbers) = eqb n x || member n numbers
 
 abbrev pub one : (b : Bool) → ℕ
-one b = if b then 1 else 0
+one b = if b then 1 otherwise 0
 
 -- f 0 + .. + f (n - 1)
 unfoldable pub sum : (f : ℕ → ℕ) (n : ℕ) → ℕ
@@ -164,39 +164,39 @@ recent numbers = sum (λ k. one (member (highest numbers - k) numbers)) (min (hi
 unfoldable pub right_number : (numbers : List ℕ) (number : ℕ) (integrity : Bool) → Answer
 right_number numbers number integrity =
     if eqb number 0 || leb (number + 64) (highest numbers) then refused 8197
-    else if member number numbers then refused 8194
-    else if not integrity then refused 24
-    else done ((highest (number ∷ numbers) - highest numbers) ∷ [])
+    otherwise if member number numbers then refused 8194
+    otherwise if not integrity then refused 24
+    otherwise done ((highest (number ∷ numbers) - highest numbers) ∷ [])
 
 unfoldable pub right_packet : (past : List Event) (destination protocol : ℕ) (integrity : Bool) (p : Packet) → Answer
 right_packet past destination protocol integrity (Refused number) = refused number
 right_packet past destination protocol integrity (Read spi number) =
     if not (lives (record { destination = destination; protocol = protocol; spi = spi }) past) then refused 11
-    else right_number (accepted (record { destination = destination; protocol = protocol; spi = spi }) past) number integrity
+    otherwise right_number (accepted (record { destination = destination; protocol = protocol; spi = spi }) past) number integrity
 
 unfoldable pub right : (past : List Event) (c : Call) → Answer
 -- "Adding: protocol 10, SPI below 256 11, present 8200, full 8199"
 right past (adds key) =
     if not (known key.protocol) then refused 10
-    else if ltb key.spi 256 then refused 11
-    else if lives key past then refused 8200
-    else if leb 64 (entries past) then refused 8199
-    else done (1 ∷ [])
+    otherwise if ltb key.spi 256 then refused 11
+    otherwise if lives key past then refused 8200
+    otherwise if leb 64 (entries past) then refused 8199
+    otherwise done (1 ∷ [])
 -- "any other call on an absent key 11"
 right past (removes key) =
     if not (lives key past) then refused 11
-    else done (1 ∷ [])
+    otherwise done (1 ∷ [])
 -- what the packet itself is refused for, "then entry 11", then its number
 right past (shows destination protocol integrity s) = right_packet past destination protocol integrity (read protocol s)
 -- "Sending counts from 1; after 4,294,967,295: 8198"
 right past (sends key) =
     if not (lives key past) then refused 11
-    else if leb 4294967295 (length (handed key past)) then refused 8198
-    else done ((length (handed key past) + 1) ∷ [])
+    otherwise if leb 4294967295 (length (handed key past)) then refused 8198
+    otherwise done ((length (handed key past) + 1) ∷ [])
 -- "A loss line gives H, the lesser of H and 64, and how many of those last numbers were accepted"
 right past (asks key) =
     if not (lives key past) then refused 11
-    else done (highest (accepted key past) ∷ min (highest (accepted key past)) 64 ∷ recent (accepted key past) ∷ [])
+    otherwise done (highest (accepted key past) ∷ min (highest (accepted key past)) 64 ∷ recent (accepted key past) ∷ [])
 
 -- ---- runs
 
@@ -287,7 +287,7 @@ lent_after r (n ∷ numbers) = lent_after (judged r n.1 n.0).receive numbers
 
 -- the accepted numbers, the last first, after one more answer and after several: known by the answers alone
 abbrev pub accepted_then : (a : Answer) (number : ℕ) (before : List ℕ) → List ℕ
-accepted_then a number before = if is_done a then number ∷ before else before
+accepted_then a number before = if is_done a then number ∷ before otherwise before
 
 unfoldable pub accepted_by : (answers : List Answer) (numbers : List (Bool × ℕ)) (before : List ℕ) → List ℕ
 accepted_by [] numbers before = before
@@ -301,7 +301,7 @@ lent_accepted numbers = accepted_by (lent_answers new_receive numbers) numbers [
 -- the rises that answers to a lent record's steps carry
 unfoldable pub rises_by : (answers : List Answer) → List ℕ
 rises_by [] = []
-rises_by (a ∷ answers) = if is_done a then rise_given a ∷ rises_by answers else rises_by answers
+rises_by (a ∷ answers) = if is_done a then rise_given a ∷ rises_by answers otherwise rises_by answers
 
 -- ---- numbers shown to a fresh entry
 

@@ -1,7 +1,7 @@
 -- Packets, document 01, "Sequence numbers": the SPI and the sequence number in an AH or ESP packet.
 use Rattle.std.specs.Prelude.{ℕ, ◌+◌, ◌*◌, [], ◌∷◌, Bool, not, ◌||◌, ◌&&◌, length, get_or, leb, eqb}
 use Rattle.wire_read.specs.Wire.{Bytes, number_at}
-use Rattle.wire_read.specs.Tests.{if◌then◌else◌}
+use Rattle.wire_read.specs.Tests.{if◌then◌otherwise◌}
 use Rattle.wire_read.specs.Answer.{Answer, done, refused}
 use Rattle.sequence_packet.specs.declared.Packet.{Packet}
 use Rattle.sequence_packet.specs.declared.Packet.TheVariants.{Read, Refused}
@@ -42,20 +42,20 @@ ah_size s = (ah_length_field s + 2) * 4
 unfoldable pub ah : (s : Bytes) → Packet
 ah s =
     if leb 12 (length s) && eqb (ah_reserved s) 0 && leb 12 (ah_size s) && leb (ah_size s) (length s) then Read (ah_spi s) (ah_number s)
-    else Refused 16
+    otherwise Refused 16
 
 -- "ESP 8 at least; else 16"
 unfoldable pub esp : (s : Bytes) → Packet
 esp s =
     if leb 8 (length s) then Read (esp_spi s) (esp_number s)
-    else Refused 16
+    otherwise Refused 16
 
 -- "A packet's protocol not 2 or 3: 10."
 unfoldable pub read : (protocol : ℕ) (s : Bytes) → Packet
 read protocol s =
     if not (known protocol) then Refused 10
-    else if eqb protocol 2 then ah s
-    else esp s
+    otherwise if eqb protocol 2 then ah s
+    otherwise esp s
 
 -- the paper's number and values for each case
 unfoldable pub packet_answer : (p : Packet) → Answer

@@ -7,7 +7,7 @@ use native.Mathlib.Omega.{arith}
 use lib.ListN.{length}
 use lib.Dec.{leb}
 use borrow.Author.Tests.{le-leb, lt-leb, leb-false, leb-true}
-use Rattle.wire_read.specs.Tests.{if◌then◌else◌}
+use Rattle.wire_read.specs.Tests.{if◌then◌otherwise◌}
 use Rattle.wire_read.specs.Answer.{Answer, done, refused}
 use Rattle.wire_read.proofs.Tests.{clash, by_test}
 use Rattle.sequence_record.specs.declared.Receive.{Receive}
@@ -21,7 +21,7 @@ use Rattle.sequence_plain.proofs.ListLaws.{numbers_length}
 -- an answer of document 01's four cases is not 8202, and where it is a refusal it carries nothing
 abbrev four : (old again integrity : Bool) (x : ℕ) → Answer
 four old again integrity x =
-    if old then refused 8197 else if again then refused 8194 else if not integrity then refused 24 else done (x ∷ [])
+    if old then refused 8197 otherwise if again then refused 8194 otherwise if not integrity then refused 24 otherwise done (x ∷ [])
 
 never_full : (old again integrity : Bool) (x : ℕ) → four old again integrity x ≡ refused 8202 → ⊥
 never_full true again integrity x h = let e : ◌≡◌ {A = ℕ} 8197 8202 = ap (λ (a : Answer). a.number) h in omega arith
@@ -77,7 +77,7 @@ module _ (numbers : List ℕ) (number : ℕ) (integrity : Bool) where
   unfolding right_plain
   refused-same d = rw d
 
-  pub full-plain : most ≤ length numbers → plain ≡ (if is_done right then refused 8202 else right)
+  pub full-plain : most ≤ length numbers → plain ≡ (if is_done right then refused 8202 otherwise right)
   unfolding right_plain
   full-plain full = by_test (is_done right) (λ d. rw (d, le-leb most (length numbers) full)) (λ d. rw d)
 

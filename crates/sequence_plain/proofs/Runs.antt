@@ -7,7 +7,7 @@ use mathlib.Core.List.{List, [], ◌∷◌, map}
 use native.Mathlib.Omega.{arith}
 use lib.ListN.{length}
 use lib.Dec.{leb}
-use Rattle.wire_read.specs.Tests.{if◌then◌else◌}
+use Rattle.wire_read.specs.Tests.{if◌then◌otherwise◌}
 use Rattle.wire_read.specs.Answer.{Answer, refused}
 use Rattle.wire_read.proofs.Tests.{by_test}
 use Rattle.sequence_record.specs.declared.Receive.{Receive}
@@ -168,7 +168,7 @@ module _ (list : PlainList) (long : length list ≡ most + 1) (none : count_of l
   pub engines_part : length (lent_accepted numbers) ≤ most → (number : ℕ) (integrity : Bool) →
       let window : Answer = verdict_answer (judged (lent_after new_receive numbers) number integrity).verdict in
       (plain_step (plain_after list numbers) number integrity).0
-      ≡ (if is_done window && leb most (length (lent_accepted numbers)) then refused 8202 else window)
+      ≡ (if is_done window && leb most (length (lent_accepted numbers)) then refused 8202 otherwise window)
   unfolding right_plain
   engines_part within number integrity =
       let answers : plain_answers list numbers ≡ lent_answers new_receive numbers =

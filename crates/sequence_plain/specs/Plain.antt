@@ -1,7 +1,7 @@
 -- The plain window, document 02, "Five": "it keeps the accepted numbers of one life as a plain list of up to 4,096, and looks through it". What is
 -- right of a list of numbers (`right_number`, `highest`, `recent`) stands in crates/sequence_history/specs/History.antt.
 use Rattle.std.specs.Prelude.{ℕ, zero, suc, ◌+◌, min, List, [], ◌∷◌, Bool, ◌&&◌, length, get_or, set, leb}
-use Rattle.wire_read.specs.Tests.{if◌then◌else◌}
+use Rattle.wire_read.specs.Tests.{if◌then◌otherwise◌}
 use Rattle.wire_read.specs.Answer.{Answer, refused}
 use Rattle.sequence_record.specs.declared.LossLine.{LossLine}
 use Rattle.sequence_history.specs.History.{is_done, highest, recent, right_number}
@@ -37,13 +37,13 @@ with_next list number = set (set list (count_of list + 1) number) 0 (count_of li
 unfoldable pub right_plain : (numbers : List ℕ) (number : ℕ) (integrity : Bool) → Answer
 right_plain numbers number integrity =
     if is_done (right_number numbers number integrity) && leb most (length numbers) then refused 8202
-    else right_number numbers number integrity
+    otherwise right_number numbers number integrity
 
 -- a packet's answer, and the list after it: a refusal changes nothing
 unfoldable pub plain_step : (list : PlainList) (number : ℕ) (integrity : Bool) → Answer × PlainList
 plain_step list number integrity = (
   right_plain (numbers_of list) number integrity,
-  if is_done (right_plain (numbers_of list) number integrity) then with_next list number else list,
+  if is_done (right_plain (numbers_of list) number integrity) then with_next list number otherwise list,
 )
 
 -- "A loss line gives H, the lesser of H and 64, and how many of those last numbers were accepted": a number that stands twice counts once

@@ -2,7 +2,7 @@
 -- number highest - k was accepted.
 use Rattle.std.specs.Prelude.{ℕ, ◌+◌, ◌-◌, ◌*◌, ◌/◌, ◌%◌, ◌^◌, max, min, [], ◌∷◌, Bool, not, ◌||◌, ◌&&◌, ltb, leb, eqb}
 use Rattle.std.specs.Int.Count.{ones}
-use Rattle.wire_read.specs.Tests.{if◌then◌else◌}
+use Rattle.wire_read.specs.Tests.{if◌then◌otherwise◌}
 use Rattle.wire_read.specs.Answer.{Answer, done, refused}
 use Rattle.sequence_record.specs.declared.Receive.{Receive}
 use Rattle.sequence_record.specs.declared.Verdict.{Verdict}
@@ -28,7 +28,7 @@ accepted_before r number = leb number r.highest && eqb (bit r.window (r.highest 
 
 -- a 64-bit window moved up by so many places; what goes past its end is dropped
 abbrev pub shifted : (window places : ℕ) → ℕ
-shifted window places = if ltb places 64 then window * 2 ^ places % 2 ^ 64 else 0
+shifted window places = if ltb places 64 then window * 2 ^ places % 2 ^ 64 otherwise 0
 
 -- document 02, Four: "by how much the highest number rose, 0 if it didn't"
 abbrev pub rise : (r : Receive) (number : ℕ) → ℕ
@@ -47,9 +47,9 @@ with_number r number =
 unfoldable pub judged : (r : Receive) (number : ℕ) (integrity : Bool) → Judged
 judged r number integrity =
     if behind r.highest number then record { receive = r; verdict = Refused 8197 }
-    else if accepted_before r number then record { receive = r; verdict = Refused 8194 }
-    else if not integrity then record { receive = r; verdict = Refused 24 }
-    else record { receive = with_number r number; verdict = Accepted (rise r number) }
+    otherwise if accepted_before r number then record { receive = r; verdict = Refused 8194 }
+    otherwise if not integrity then record { receive = r; verdict = Refused 24 }
+    otherwise record { receive = with_number r number; verdict = Accepted (rise r number) }
 
 -- "A loss line gives H, the lesser of H and 64, and how many of those last numbers were accepted": ones counted in the window
 abbrev pub loss_line : (r : Receive) → LossLine

@@ -9,7 +9,7 @@ use lib.ListN.{length, get_or, set, length-set}
 use lib.Seq.{get_or-set_same, get_or-set_other, set-get_or}
 use lib.Dec.{leb, ltb, eqb}
 use borrow.Author.Tests.{eq-eqb, ne_eqb, eqb-true, eqb-false, leb-true, ltb-true}
-use Rattle.wire_read.specs.Tests.{if◌then◌else◌}
+use Rattle.wire_read.specs.Tests.{if◌then◌otherwise◌}
 use Rattle.wire_read.proofs.Tests.{both, by_test}
 use Rattle.sequence_table.specs.declared.table.Key.{Key}
 use Rattle.sequence_table.specs.declared.table.Entry.{Entry}
@@ -155,7 +155,7 @@ length_run (w ∷ ws) t i place = length_run ws (set t (i * words + place) w) i 
 
 -- an entry is made of its room's words from place 3 on: others are as good as 0
 abbrev own : (word_at : ℕ → ℕ) (place : ℕ) → ℕ
-own word_at place = if leb 3 place && ltb place words then word_at place else 0
+own word_at place = if leb 3 place && ltb place words then word_at place otherwise 0
 
 entry_same : (f g : ℕ → ℕ) → ((place : ℕ) → 3 ≤ place → place < words → f place ≡ g place) → entry_of f ≡ entry_of g
 entry_same f g same = ap entry_of (λ i place. own_same place i)

@@ -7,7 +7,7 @@ use native.Mathlib.Omega.{arith}
 use lib.ListN.{set}
 use lib.Dec.{eqb}
 use borrow.Author.Tests.{lt-ltb, le-ltb, le-leb, lt-leb, eq-eqb, ne_eqb}
-use Rattle.wire_read.specs.Tests.{if◌then◌else◌}
+use Rattle.wire_read.specs.Tests.{if◌then◌otherwise◌}
 use Rattle.sequence_record.specs.Receive.{new_receive, judged, loss_line}
 use Rattle.sequence_record.specs.declared.Receive.{Receive}
 use Rattle.sequence_record.specs.declared.Judged.{Judged}
@@ -32,7 +32,7 @@ module _ (t : Table) (key : Key) (i : ℕ) where
   unfolding holds
   holds_not e = rw (ne_eqb (spi_in t i) key.spi e)
 
-first_step : (test : ℕ → Bool) (i : ℕ) → i < rooms → first_place test (rooms - i) i ≡ (if test i then i else first_place test (rooms - (i + 1)) (i + 1))
+first_step : (test : ℕ → Bool) (i : ℕ) → i < rooms → first_place test (rooms - i) i ≡ (if test i then i otherwise first_place test (rooms - (i + 1)) (i + 1))
 unfolding first_place
 first_step test i h = let e : rooms - i ≡ suc (rooms - (i + 1)) = omega arith in rw e
 

@@ -2,7 +2,7 @@
 -- where the room is free, else the protocol plus 1), destination, SPI, highest, window, counter. A call gives its answer and the table after it.
 use Rattle.std.specs.Prelude.{ℕ, zero, suc, ◌+◌, ◌*◌, List, [], ◌∷◌, Bool, not, ◌&&◌, get_or, set, replicate, ltb, leb, eqb}
 use Rattle.wire_read.specs.Wire.{Bytes}
-use Rattle.wire_read.specs.Tests.{if◌then◌else◌}
+use Rattle.wire_read.specs.Tests.{if◌then◌otherwise◌}
 use Rattle.wire_read.specs.Answer.{Answer, done, refused}
 use Rattle.sequence_record.specs.declared.Receive.{Receive}
 use Rattle.sequence_record.specs.declared.Verdict.{Verdict}
@@ -59,7 +59,7 @@ is_free t room = eqb (mark_in t room) 0
 -- the first place from i on that passes the test, so many are looked at; the one behind them where none passes
 unfoldable pub first_place : (test : ℕ → Bool) (left i : ℕ) → ℕ
 first_place test zero i = i
-first_place test (suc left) i = if test i then i else first_place test left (i + 1)
+first_place test (suc left) i = if test i then i otherwise first_place test left (i + 1)
 
 -- the key's room, 64 where it has none
 unfoldable pub find : (t : Table) (key : Key) → ℕ
@@ -111,16 +111,16 @@ put_entry t room e = put_words t room 3 (entry_words e)
 unfoldable pub added : (t : Table) (key : Key) → Outcome × Table
 added t key =
     if not (known key.protocol) then (Outcomes.Refused 10, t)
-    else if ltb key.spi 256 then (Outcomes.Refused 11, t)
-    else if ltb (find t key) rooms then (Outcomes.Refused 8200, t)
-    else if leb rooms (free t) then (Outcomes.Refused 8199, t)
-    else (Outcomes.Done, put_entry (put_key t (free t) key) (free t) new_entry)
+    otherwise if ltb key.spi 256 then (Outcomes.Refused 11, t)
+    otherwise if ltb (find t key) rooms then (Outcomes.Refused 8200, t)
+    otherwise if leb rooms (free t) then (Outcomes.Refused 8199, t)
+    otherwise (Outcomes.Done, put_entry (put_key t (free t) key) (free t) new_entry)
 
 -- "any other call on an absent key 11"
 unfoldable pub removed : (t : Table) (key : Key) → Outcome × Table
 removed t key =
     if leb rooms (find t key) then (Outcomes.Refused 11, t)
-    else (Outcomes.Done, emptied t (find t key))
+    otherwise (Outcomes.Done, emptied t (find t key))
 
 -- a step of the record in a room
 unfoldable pub judged_at : (t : Table) (room : ℕ) (j : Judged) → Verdict × Table
@@ -134,7 +134,7 @@ packet_read t destination protocol integrity (Packets.Read spi number) =
     at : (room : ℕ) → Verdict × Table
     at room =
         if leb rooms room then (Verdicts.Refused 11, t)
-        else judged_at t room (judged (entry_at t room).receive number integrity)
+        otherwise judged_at t room (judged (entry_at t room).receive number integrity)
 
 -- "A packet's protocol not 2 or 3: 10. AH .. ESP .. else 16. Then entry 11." Then the step.
 unfoldable pub packet : (t : Table) (destination protocol : ℕ) (integrity : Bool) (s : Bytes) → Verdict × Table
@@ -144,17 +144,17 @@ packet t destination protocol integrity s = packet_read t destination protocol i
 unfoldable pub handed_out : (t : Table) (room : ℕ) (e : Entry) → Sending × Table
 handed_out t room e =
     if leb 4294967295 e.counter then (Sendings.Refused 8198, t)
-    else (Sendings.Number (e.counter + 1), put_entry t room (with_counter e (e.counter + 1)))
+    otherwise (Sendings.Number (e.counter + 1), put_entry t room (with_counter e (e.counter + 1)))
 
 unfoldable pub next_to_send : (t : Table) (key : Key) → Sending × Table
 next_to_send t key =
     if leb rooms (find t key) then (Sendings.Refused 11, t)
-    else handed_out t (find t key) (entry_at t (find t key))
+    otherwise handed_out t (find t key) (entry_at t (find t key))
 
 unfoldable pub loss : (t : Table) (key : Key) → Counted
 loss t key =
     if leb rooms (find t key) then Counts.Refused 11
-    else Counts.Line (loss_line (entry_at t (find t key)).receive)
+    otherwise Counts.Line (loss_line (entry_at t (find t key)).receive)
 
 -- ---- the paper's number and values for each case
 

@@ -8,10 +8,10 @@ use native.Mathlib.Omega.{arith}
 use lib.ListN.{length}
 use lib.Dec.{eqb}
 use borrow.Author.Tests.{eq-eqb, ne_eqb}
-use Rattle.wire_read.specs.Tests.{if◌then◌else◌}
+use Rattle.wire_read.specs.Tests.{if◌then◌otherwise◌}
 use Rattle.wire_read.specs.Parts.{skip, parts}
 
-if_most : (b : Bool) (n m : ℕ) → n ≤ m → (if b then 0 else 1 + n) ≤ suc m
+if_most : (b : Bool) (n m : ℕ) → n ≤ m → (if b then 0 otherwise 1 + n) ≤ suc m
 if_most true n m h = omega arith
 if_most false n m h = omega arith
 
@@ -21,7 +21,7 @@ module _ (rest : List ℕ → List ℕ) where
   skip_step zero s h = absurd (h refl)
   skip_step (suc k) s h = let i : suc k - 1 ≡ k = omega arith in rw i
 
-  parts-step : (left : ℕ) (s : List ℕ) → (left ≡ 0 → ⊥) → parts rest left s ≡ (if eqb (length s) 0 then 0 else 1 + parts rest (left - 1) (rest s))
+  parts-step : (left : ℕ) (s : List ℕ) → (left ≡ 0 → ⊥) → parts rest left s ≡ (if eqb (length s) 0 then 0 otherwise 1 + parts rest (left - 1) (rest s))
   unfolding parts
   parts-step zero s h = absurd (h refl)
   parts-step (suc left) s h = let i : suc left - 1 ≡ left = omega arith in rw i

@@ -1,7 +1,7 @@
 -- Bytes in which parts lie one behind the other, where rest takes off the first.
 use Rattle.std.specs.Prelude.{ℕ, zero, suc, ◌+◌, length, eqb}
 use Rattle.wire_read.specs.Wire.{Bytes}
-use Rattle.wire_read.specs.Tests.{if◌then◌else◌}
+use Rattle.wire_read.specs.Tests.{if◌then◌otherwise◌}
 
 -- what is left of s after k parts
 unfoldable pub skip : (rest : Bytes → Bytes) (k : ℕ) (s : Bytes) → Bytes
@@ -11,4 +11,4 @@ skip rest (suc k) s = skip rest k (rest s)
 -- how many parts s has, at most left
 unfoldable pub parts : (rest : Bytes → Bytes) (left : ℕ) (s : Bytes) → ℕ
 parts rest zero s = 0
-parts rest (suc left) s = if eqb (length s) 0 then 0 else 1 + parts rest left (rest s)
+parts rest (suc left) s = if eqb (length s) 0 then 0 otherwise 1 + parts rest left (rest s)

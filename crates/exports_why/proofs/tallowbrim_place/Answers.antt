@@ -2,7 +2,7 @@ use Prim.Native.Nat.{ℕ}
 use mathlib.Core.Path.{◌≡◌, refl}
 use mathlib.Core.List.{List, [], ◌∷◌}
 use mathlib.Core.Bool.{Bool, true, false, not}
-use Rattle.wire_read.specs.Tests.{if◌then◌else◌}
+use Rattle.wire_read.specs.Tests.{if◌then◌otherwise◌}
 use Rattle.message_chain.specs.Message.{message}
 use Rattle.policy_choice.specs.Choice.{sa_from}
 use Rattle.policy_why.specs.Why.{message_offer, is_place}
@@ -14,7 +14,7 @@ use Rattle.exports_why.specs.Places.{found_values, place_values, offer_place, pl
 use Rattle.exports_why.proofs.tallowbrim_place.Goals as goal
 
 some_left : (missing : Bool) (values out : List ℕ) →
-    left 4 (if missing then 1 ∷ [] else 2 ∷ values) out ≡ words 4 (if missing then 1 ∷ [] else 2 ∷ values)
+    left 4 (if missing then 1 ∷ [] otherwise 2 ∷ values) out ≡ words 4 (if missing then 1 ∷ [] otherwise 2 ∷ values)
 unfolding left
 some_left true values out = refl
 some_left false values out = refl
