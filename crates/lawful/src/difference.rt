@@ -7,15 +7,16 @@ use policy_lawful::{Difference, first_difference};
 use sa_fields::{ProposalNumber, TransformNumber, proposal_number, protocol};
 use sa_items::proposal;
 use sa_sets::{set, set_numbered};
-use std::alloc::AllocError;
+use std::io;
+use std::io::Write;
 
 pub(crate) fn tell(
-    out: &mut String,
+    out: &mut impl Write,
     booked: bool,
     book: &[u8],
     offer: &[u8],
     reply: &[u8],
-) -> Result<(), AllocError> {
+) -> io::Result<()> {
     let found = first_difference(booked, book, offer, reply);
     match found {
         Difference::OfferRefused(_) => unread(out, "offer", offer),
@@ -33,7 +34,7 @@ pub(crate) fn tell(
 }
 
 // A message that reads is refused only where it has no SA payload.
-fn unread(out: &mut String, name: &str, m: &[u8]) -> Result<(), AllocError> {
+fn unread(out: &mut impl Write, name: &str, m: &[u8]) -> io::Result<()> {
     let read = message_chain::read(m);
     match read {
         Message::Refused(_) => write!(out, "{name}: cannot be read"),
@@ -45,7 +46,7 @@ fn unread(out: &mut String, name: &str, m: &[u8]) -> Result<(), AllocError> {
 }
 
 // What differs of the reply's set, beside the body of the offer's SA payload.
-fn of_set(out: &mut String, found: Difference, offer: &[u8], s: &[u8]) -> Result<(), AllocError> {
+fn of_set(out: &mut impl Write, found: Difference, offer: &[u8], s: &[u8]) -> io::Result<()> {
     let number = proposal_number(proposal(0, s));
     match found {
         Difference::SeveralSets(count) => write!(out, "has {count} sets"),
@@ -60,11 +61,7 @@ fn of_set(out: &mut String, found: Difference, offer: &[u8], s: &[u8]) -> Result
 }
 
 // What differs of a transform, beside the offered one of its number.
-fn of_transform(
-    out: &mut String,
-    found: Difference,
-    in_set: ProposalNumber,
-) -> Result<(), AllocError> {
+fn of_transform(out: &mut impl Write, found: Difference, in_set: ProposalNumber) -> io::Result<()> {
     match found {
         Difference::TransformNotOffered { protocol, number } => {
             named_transform(out, in_set, protocol, number)?;
@@ -88,11 +85,7 @@ fn of_transform(
 }
 
 // What it takes and the book does not choose: a transform, or the set.
-fn of_choice(
-    out: &mut String,
-    found: Difference,
-    in_set: ProposalNumber,
-) -> Result<(), AllocError> {
+fn of_choice(out: &mut impl Write, found: Difference, in_set: ProposalNumber) -> io::Result<()> {
     write!(out, "takes ")?;
     match found {
         Difference::OtherTransform {
@@ -104,49 +97,39 @@ fn of_choice(
     }
 }
 
-fn set_not_offered(out: &mut String, in_set: ProposalNumber) -> Result<(), AllocError> {
+fn set_not_offered(out: &mut impl Write, in_set: ProposalNumber) -> io::Result<()> {
     names::set(out, in_set)?;
     write!(out, " is not offered")
 }
 
 fn protocols(
-    out: &mut String,
+    out: &mut impl Write,
     in_set: ProposalNumber,
     s: &[u8],
     offered: &[u8],
-) -> Result<(), AllocError> {
+) -> io::Result<()> {
     let found = names::protocols_of(s);
     let wanted = names::protocols_of(offered);
     has(out, in_set, found, wanted)
 }
 
-fn order(
-    out: &mut String,
-    in_set: ProposalNumber,
-    s: &[u8],
-    offered: &[u8],
-) -> Result<(), AllocError> {
+fn order(out: &mut impl Write, in_set: ProposalNumber, s: &[u8], offered: &[u8]) -> io::Result<()> {
     let found = names::order(protocol(proposal(0, s)));
     let wanted = names::order(protocol(proposal(0, offered)));
     has(out, in_set, found, wanted)
 }
 
-fn has(
-    out: &mut String,
-    in_set: ProposalNumber,
-    found: &str,
-    offered: &str,
-) -> Result<(), AllocError> {
+fn has(out: &mut impl Write, in_set: ProposalNumber, found: &str, offered: &str) -> io::Result<()> {
     names::set(out, in_set)?;
     write!(out, " has {found}, offered {offered}")
 }
 
 fn several_transforms(
-    out: &mut String,
+    out: &mut impl Write,
     in_set: ProposalNumber,
     protocol: u8,
     count: u8,
-) -> Result<(), AllocError> {
+) -> io::Result<()> {
     names::set(out, in_set)?;
     if !names::is_main(protocol) {
         write!(out, ": {}", names::protocol(protocol))?;
@@ -155,18 +138,18 @@ fn several_transforms(
 }
 
 fn named_transform(
-    out: &mut String,
+    out: &mut impl Write,
     in_set: ProposalNumber,
     protocol: u8,
     number: TransformNumber,
-) -> Result<(), AllocError> {
+) -> io::Result<()> {
     names::set(out, in_set)?;
     write!(out, ": ")?;
     names::transform(out, protocol, number)
 }
 
 // The offer reads and the book is lawful, so that a refused choice is one of nothing.
-fn chosen(out: &mut String, choice: Choice) -> Result<(), AllocError> {
+fn chosen(out: &mut impl Write, choice: Choice) -> io::Result<()> {
     write!(out, "; the book chooses ")?;
     match choice {
         Choice::Refused(_) => write!(out, "nothing"),
@@ -178,7 +161,7 @@ fn chosen(out: &mut String, choice: Choice) -> Result<(), AllocError> {
     }
 }
 
-fn numbers(out: &mut String, transforms: Transforms) -> Result<(), AllocError> {
+fn numbers(out: &mut impl Write, transforms: Transforms) -> io::Result<()> {
     match transforms {
         Transforms::One(t) => write!(out, " transforms {}", t.0),
         Transforms::Two(t, u) => write!(out, " transforms {} {}", t.0, u.0),

@@ -7,7 +7,6 @@ mod names;
 
 use bench_words::number::{Number, decimal};
 use policy_lawful::{Lawfulness, reply_lawful};
-use std::alloc::AllocError;
 use std::env::FillError;
 use std::io;
 use std::io::{Read, Write};
@@ -29,9 +28,7 @@ struct Sizes {
 fn main(rt: HostRuntime) -> io::Result<()> {
     let mut input = Vec::new(rt.alloc());
     rt.stdin().take(LONGEST).read_to_end(&mut input)?;
-    let mut out = String::new(rt.alloc());
-    apart(&mut out, &input, sizes_given(&rt))?;
-    rt.stdout().write_all(out.as_bytes())
+    apart(&mut rt.stdout(), &input, sizes_given(&rt))
 }
 
 // The arguments say it. A third stands for a book, whatever it is.
@@ -62,7 +59,7 @@ fn size_given(rt: &impl Env, place: usize) -> usize {
     }
 }
 
-fn apart(out: &mut String, s: &[u8], sizes: Sizes) -> Result<(), AllocError> {
+fn apart(out: &mut impl Write, s: &[u8], sizes: Sizes) -> io::Result<()> {
     let behind = after(s, sizes.offer);
     let book = front(after(behind, sizes.reply), sizes.book);
     judge(
@@ -75,19 +72,19 @@ fn apart(out: &mut String, s: &[u8], sizes: Sizes) -> Result<(), AllocError> {
 }
 
 fn judge(
-    out: &mut String,
+    out: &mut impl Write,
     booked: bool,
     book: &[u8],
     offer: &[u8],
     reply: &[u8],
-) -> Result<(), AllocError> {
+) -> io::Result<()> {
     let said = reply_lawful(booked, book, offer, reply);
     match said {
         Lawfulness::Lawful => writeln!(out, "lawful"),
         Lawfulness::Refused(number) => {
             writeln!(out, "refused {number}")?;
             difference::tell(out, booked, book, offer, reply)?;
-            out.push('\n')
+            writeln!(out)
         }
     }
 }

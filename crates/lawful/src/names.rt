@@ -1,9 +1,10 @@
 // Names of sets, of protocols and of transforms. A transform of main mode goes without its protocol, which is the only one there.
 use sa_fields::{ProposalNumber, TransformNumber};
 use sa_items::{proposal, proposal_count};
-use std::alloc::AllocError;
+use std::io;
+use std::io::Write;
 
-pub(crate) fn set(out: &mut String, number: ProposalNumber) -> Result<(), AllocError> {
+pub(crate) fn set(out: &mut impl Write, number: ProposalNumber) -> io::Result<()> {
     write!(out, "set {}", number.0)
 }
 
@@ -40,11 +41,7 @@ pub(crate) fn order(first: u8) -> &'static str {
     }
 }
 
-pub(crate) fn transform(
-    out: &mut String,
-    of: u8,
-    number: TransformNumber,
-) -> Result<(), AllocError> {
+pub(crate) fn transform(out: &mut impl Write, of: u8, number: TransformNumber) -> io::Result<()> {
     if !is_main(of) {
         write!(out, "{} ", protocol(of))?;
     }

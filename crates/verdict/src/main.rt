@@ -3,7 +3,6 @@
 
 use message_chain::{Message, Payload};
 use policy_choice::{Choice, Transforms};
-use std::alloc::AllocError;
 use std::io;
 use std::io::{Read, Write};
 use wire_read::{after, front};
@@ -14,12 +13,10 @@ const LONGEST: u64 = 8275;
 fn main(rt: HostRuntime) -> io::Result<()> {
     let mut input = Vec::new(rt.alloc());
     rt.stdin().take(LONGEST).read_to_end(&mut input)?;
-    let mut out = String::new(rt.alloc());
-    verdict(&input, &mut out)?;
-    rt.stdout().write_all(out.as_bytes())
+    verdict(&input, &mut rt.stdout())
 }
 
-fn verdict(s: &[u8], out: &mut String) -> Result<(), AllocError> {
+fn verdict(s: &[u8], out: &mut impl Write) -> io::Result<()> {
     if !policy_book::book_in_front(s) {
         return refused(out, 8193);
     }
@@ -37,14 +34,14 @@ fn verdict(s: &[u8], out: &mut String) -> Result<(), AllocError> {
     }
 }
 
-fn payloads(out: &mut String, m: &[u8], count: u8) -> Result<(), AllocError> {
+fn payloads(out: &mut impl Write, m: &[u8], count: u8) -> io::Result<()> {
     for k in 0..count {
         payload(out, message_chain::payload_at(m, k))?;
     }
     Ok(())
 }
 
-fn payload(out: &mut String, p: Payload) -> Result<(), AllocError> {
+fn payload(out: &mut impl Write, p: Payload) -> io::Result<()> {
     writeln!(
         out,
         "payload {} at {} length {}",
@@ -53,25 +50,25 @@ fn payload(out: &mut String, p: Payload) -> Result<(), AllocError> {
 }
 
 // The message reads, so that 16 says that it has no SA payload: then nothing is chosen, and nothing said.
-fn choice(out: &mut String, c: Choice) -> Result<(), AllocError> {
+fn choice(out: &mut impl Write, c: Choice) -> io::Result<()> {
     match c {
         Choice::Refused(16) => Ok(()),
         Choice::Refused(number) => refused(out, number),
         Choice::Chosen(set, line, transforms) => {
             write!(out, "chosen set {} line {}", set.0, line.0)?;
             numbers(out, transforms)?;
-            out.push('\n')
+            writeln!(out)
         }
     }
 }
 
-fn numbers(out: &mut String, transforms: Transforms) -> Result<(), AllocError> {
+fn numbers(out: &mut impl Write, transforms: Transforms) -> io::Result<()> {
     match transforms {
         Transforms::One(t) => write!(out, " transforms {}", t.0),
         Transforms::Two(t, u) => write!(out, " transforms {} {}", t.0, u.0),
     }
 }
 
-fn refused(out: &mut String, number: u16) -> Result<(), AllocError> {
+fn refused(out: &mut impl Write, number: u16) -> io::Result<()> {
     writeln!(out, "refused {number}")
 }

@@ -1,14 +1,15 @@
 // What is said of a transform behind its number: that it would do, or why it does not.
 use crate::names;
 use policy_cause::Cause;
-use std::alloc::AllocError;
+use std::io;
+use std::io::Write;
 
 pub(crate) fn cause(
-    out: &mut String,
+    out: &mut impl Write,
     exchange: u8,
     protocol: u8,
     cause: Cause,
-) -> Result<(), AllocError> {
+) -> io::Result<()> {
     match cause {
         Cause::Suits => would_do(out, protocol),
         Cause::Id { found, wanted } => write!(out, ": ID {found}, wanted {wanted}"),
@@ -28,7 +29,7 @@ pub(crate) fn cause(
 }
 
 // A set that fails though one of its transforms would do is of AH with ESP, and fails by the other protocol.
-fn would_do(out: &mut String, protocol: u8) -> Result<(), AllocError> {
+fn would_do(out: &mut impl Write, protocol: u8) -> io::Result<()> {
     let other = names::protocol(if protocol == 2 { 3 } else { 2 });
     write!(out, " would do, but none of {other} does")
 }
@@ -41,7 +42,7 @@ fn is_life_type(exchange: u8, attributetype: u16) -> bool {
     }
 }
 
-fn attribute(out: &mut String, exchange: u8, attributetype: u16) -> Result<(), AllocError> {
+fn attribute(out: &mut impl Write, exchange: u8, attributetype: u16) -> io::Result<()> {
     let name = if exchange == 2 {
         names::main_attribute(attributetype)
     } else {
@@ -50,7 +51,7 @@ fn attribute(out: &mut String, exchange: u8, attributetype: u16) -> Result<(), A
     write!(out, ": attribute {attributetype} ({name})")
 }
 
-fn missing(out: &mut String, exchange: u8, attributetype: u16) -> Result<(), AllocError> {
+fn missing(out: &mut impl Write, exchange: u8, attributetype: u16) -> io::Result<()> {
     if is_life_type(exchange, attributetype) {
         return write!(out, ": no lifetime in seconds");
     }
@@ -59,12 +60,12 @@ fn missing(out: &mut String, exchange: u8, attributetype: u16) -> Result<(), All
 }
 
 fn value(
-    out: &mut String,
+    out: &mut impl Write,
     exchange: u8,
     attributetype: u16,
     found: u32,
     wanted: u32,
-) -> Result<(), AllocError> {
+) -> io::Result<()> {
     attribute(out, exchange, attributetype)?;
     write!(out, " is {found}")?;
     mode_behind(out, attributetype, found)?;
@@ -73,7 +74,7 @@ fn value(
 }
 
 // Behind the value of attribute 4, which only quick mode wants, the mode's name where it has one.
-fn mode_behind(out: &mut String, attributetype: u16, value: u32) -> Result<(), AllocError> {
+fn mode_behind(out: &mut impl Write, attributetype: u16, value: u32) -> io::Result<()> {
     if (attributetype == 4) & (1 <= value) & (value <= 4) {
         write!(out, " ({})", names::mode(value))
     } else {
@@ -81,12 +82,7 @@ fn mode_behind(out: &mut String, attributetype: u16, value: u32) -> Result<(), A
     }
 }
 
-fn surplus(
-    out: &mut String,
-    exchange: u8,
-    attributetype: u16,
-    found: u32,
-) -> Result<(), AllocError> {
+fn surplus(out: &mut impl Write, exchange: u8, attributetype: u16, found: u32) -> io::Result<()> {
     attribute(out, exchange, attributetype)?;
     if is_life_type(exchange, attributetype) {
         write!(out, " of {found}")?;
@@ -94,7 +90,7 @@ fn surplus(
     write!(out, " is not wanted")
 }
 
-fn seconds(out: &mut String, found: u32, longest: u32) -> Result<(), AllocError> {
+fn seconds(out: &mut impl Write, found: u32, longest: u32) -> io::Result<()> {
     if found == 0 {
         write!(out, ": lifetime of {found} seconds, at least 1")
     } else {

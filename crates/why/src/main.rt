@@ -13,7 +13,6 @@ use policy_why::Offer;
 use sa_fields::{proposal_number, protocol, transform_count, transform_number};
 use sa_items::{proposal, proposal_count};
 use sa_sets::set_count;
-use std::alloc::AllocError;
 use std::env::FillError;
 use std::io;
 use std::io::{Read, Write};
@@ -33,19 +32,17 @@ enum Border {
 fn main(rt: HostRuntime) -> io::Result<()> {
     let mut input = Vec::new(rt.alloc());
     rt.stdin().take(LONGEST).read_to_end(&mut input)?;
-    let mut out = String::new(rt.alloc());
-    why(&mut out, &input, border_in(&rt, &input))?;
-    rt.stdout().write_all(out.as_bytes())
+    why(&mut rt.stdout(), &input, border_in(&rt, &input))
 }
 
-fn why(out: &mut String, s: &[u8], border: Border) -> Result<(), AllocError> {
+fn why(out: &mut impl Write, s: &[u8], border: Border) -> io::Result<()> {
     match border {
         Border::Nowhere => refused(out, 8193),
         Border::At(size) => offer(out, front(s, size), after(s, size)),
     }
 }
 
-fn refused(out: &mut String, number: u16) -> Result<(), AllocError> {
+fn refused(out: &mut impl Write, number: u16) -> io::Result<()> {
     writeln!(out, "refused {number}")
 }
 
@@ -76,7 +73,7 @@ fn border_counted(s: &[u8]) -> Border {
     }
 }
 
-fn offer(out: &mut String, book: &[u8], m: &[u8]) -> Result<(), AllocError> {
+fn offer(out: &mut impl Write, book: &[u8], m: &[u8]) -> io::Result<()> {
     let offer = policy_why::offered(book, m);
     match offer {
         Offer::Refused(number) => refused(out, number),
@@ -90,7 +87,7 @@ fn offer(out: &mut String, book: &[u8], m: &[u8]) -> Result<(), AllocError> {
     }
 }
 
-fn no_lines(out: &mut String, exchange: u8) -> Result<(), AllocError> {
+fn no_lines(out: &mut impl Write, exchange: u8) -> io::Result<()> {
     if exchange == 2 {
         writeln!(out, "the book has no main lines")
     } else {
@@ -98,14 +95,14 @@ fn no_lines(out: &mut String, exchange: u8) -> Result<(), AllocError> {
     }
 }
 
-fn sets(out: &mut String, exchange: u8, book: &[u8], body: &[u8]) -> Result<(), AllocError> {
+fn sets(out: &mut impl Write, exchange: u8, book: &[u8], body: &[u8]) -> io::Result<()> {
     for k in 0..set_count(body) {
         lines(out, exchange, book, sa_sets::set(k, body))?;
     }
     Ok(())
 }
 
-fn lines(out: &mut String, exchange: u8, book: &[u8], set: &[u8]) -> Result<(), AllocError> {
+fn lines(out: &mut impl Write, exchange: u8, book: &[u8], set: &[u8]) -> io::Result<()> {
     for i in 0..line_count(exchange, book) {
         pair(out, exchange, LineNumber(i + 1), book, set)?;
     }
@@ -113,12 +110,12 @@ fn lines(out: &mut String, exchange: u8, book: &[u8], set: &[u8]) -> Result<(), 
 }
 
 fn pair(
-    out: &mut String,
+    out: &mut impl Write,
     exchange: u8,
     line: LineNumber,
     book: &[u8],
     set: &[u8],
-) -> Result<(), AllocError> {
+) -> io::Result<()> {
     let cause = pair_cause(exchange, line, book, set);
     match cause {
         PairCause::Suits => {
@@ -134,12 +131,12 @@ fn pair(
 }
 
 fn proposals(
-    out: &mut String,
+    out: &mut impl Write,
     exchange: u8,
     line: LineNumber,
     book: &[u8],
     set: &[u8],
-) -> Result<(), AllocError> {
+) -> io::Result<()> {
     for p in 0..proposal_count(set) {
         transforms(out, exchange, line, book, set, proposal(p, set))?;
     }
@@ -147,13 +144,13 @@ fn proposals(
 }
 
 fn transforms(
-    out: &mut String,
+    out: &mut impl Write,
     exchange: u8,
     line: LineNumber,
     book: &[u8],
     set: &[u8],
     p: &[u8],
-) -> Result<(), AllocError> {
+) -> io::Result<()> {
     for t in 0..transform_count(p) {
         begin(out, exchange, line, book, set)?;
         transform(
@@ -169,30 +166,30 @@ fn transforms(
 }
 
 fn transform(
-    out: &mut String,
+    out: &mut impl Write,
     exchange: u8,
     line: LineNumber,
     book: &[u8],
     protocol: u8,
     t: &[u8],
-) -> Result<(), AllocError> {
+) -> io::Result<()> {
     if exchange != 2 {
         write!(out, "{} ", names::protocol(protocol))?;
     }
     write!(out, "transform {}", transform_number(t).0)?;
     let cause = transform_cause(exchange, line, book, protocol, t);
     cause::cause(out, exchange, protocol, cause)?;
-    out.push('\n')
+    writeln!(out)
 }
 
 // What is said first of a set and a line: their numbers, and what the line wants.
 fn begin(
-    out: &mut String,
+    out: &mut impl Write,
     exchange: u8,
     line: LineNumber,
     book: &[u8],
     set: &[u8],
-) -> Result<(), AllocError> {
+) -> io::Result<()> {
     let number = proposal_number(proposal(0, set)).0;
     write!(out, "set {number}, line {} (", line.0)?;
     let i = place(line);

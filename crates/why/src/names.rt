@@ -1,5 +1,7 @@
 // Names in English: of attributes, a row of Tables 6 and 7 of GB/T 36968-2018 a line, of modes and of protocols.
 use sa_items::{proposal, proposal_count};
+use std::io;
+use std::io::Write;
 
 // Table 6: attributes of main mode.
 pub(crate) fn main_attribute(attributetype: u16) -> &'static str {
