@@ -87,20 +87,20 @@ use Rattle.exports_capture.proofs.tallowbrim_carried.Reads as tallowbrim-carried
 use Rattle.exports_record.proofs.tallowbrim_record.Kinds as tallowbrim-record-kinds
 use Rattle.exports_record.proofs.tallowbrim_record.Reads as tallowbrim-record-reads
 
-pub exports-reading-tallowbrim-datagram :
+pub exports_reading-tallowbrim_datagram :
     OneAnswer 2 tallowbrim-datagram-kinds.ps tallowbrim-datagram-kinds.r {A = ℕ × List ℕ} (λ κs x s. (x, s.1.0.now))
     tallowbrim-datagram-reads.Post
-exports-reading-tallowbrim-datagram κs arguments x y s t p q = sym p ∙ q
+exports_reading-tallowbrim_datagram κs arguments x y s t p q = sym p ∙ q
 
-pub exports-reading-tallowbrim-message :
+pub exports_reading-tallowbrim_message :
     OneAnswer 2 tallowbrim-message-kinds.ps tallowbrim-message-kinds.r {A = ℕ × List ℕ} (λ κs x s. (x, s.1.0.now))
     tallowbrim-message-reads.Post
-exports-reading-tallowbrim-message κs arguments x y s t p q = sym p ∙ q
+exports_reading-tallowbrim_message κs arguments x y s t p q = sym p ∙ q
 
-pub exports-reading-tallowbrim-payload :
+pub exports_reading-tallowbrim_payload :
     OneAnswer 2 tallowbrim-payload-kinds.ps tallowbrim-payload-kinds.r {A = ℕ × List ℕ} (λ κs x s. (x, s.1.1.0.now))
     tallowbrim-payload-reads.Post
-exports-reading-tallowbrim-payload κs arguments x y s t p q = sym p ∙ q
+exports_reading-tallowbrim_payload κs arguments x y s t p q = sym p ∙ q
 
 pub exports_reading-tallowbrim_identity : OneAnswer 1 tallowbrim-identity-kinds.ps tallowbrim-identity-kinds.r result tallowbrim-identity-reads.Post
 exports_reading-tallowbrim_identity κs arguments x y s t p q = p ∙ sym q
@@ -111,38 +111,38 @@ exports_reading-tallowbrim_name κs arguments x y s t p q = p ∙ sym q
 pub exports_reading-tallowbrim_element : OneAnswer 1 tallowbrim-element-kinds.ps tallowbrim-element-kinds.r result tallowbrim-element-reads.Post
 exports_reading-tallowbrim_element κs arguments x y s t p q = p ∙ sym q
 
-pub exports-policy-tallowbrim-book :
+pub exports_policy-tallowbrim_book :
     OneAnswer 2 tallowbrim-book-kinds.ps tallowbrim-book-kinds.r {A = ℕ × List ℕ} (λ κs x s. (x, s.1.0.now))
     tallowbrim-book-reads.Post
-exports-policy-tallowbrim-book κs arguments x y s t p q = sym p ∙ q
+exports_policy-tallowbrim_book κs arguments x y s t p q = sym p ∙ q
 
-pub exports-policy-tallowbrim-choose :
+pub exports_policy-tallowbrim_choose :
     OneAnswer 3 tallowbrim-choose-kinds.ps tallowbrim-choose-kinds.r {A = ℕ × List ℕ} (λ κs x s. (x, s.1.1.0.now))
     tallowbrim-choose-reads.Post
-exports-policy-tallowbrim-choose κs arguments x y s t p q = sym p ∙ q
+exports_policy-tallowbrim_choose κs arguments x y s t p q = sym p ∙ q
 
-pub exports-policy-tallowbrim-reply :
+pub exports_policy-tallowbrim_reply :
     OneAnswer 4 tallowbrim-reply-kinds.ps tallowbrim-reply-kinds.r {A = (ℕ × List ℕ) × List ℕ} (λ κs x s. ((x, s.1.1.1.1.1.0.now), s.1.1.1.1.0.now))
     tallowbrim-reply-reads.Post
-exports-policy-tallowbrim-reply κs arguments x y s t p q = sym p ∙ q
+exports_policy-tallowbrim_reply κs arguments x y s t p q = sym p ∙ q
 
-pub exports-why-tallowbrim-cause :
+pub exports_why-tallowbrim_cause :
     OneAnswer 3 tallowbrim-cause-kinds.ps tallowbrim-cause-kinds.r {A = ℕ × List ℕ} (λ κs x s. (x, s.1.1.1.1.1.1.0.now))
     tallowbrim-cause-reads.Post
-exports-why-tallowbrim-cause κs arguments x y s t p q = sym p ∙ q
+exports_why-tallowbrim_cause κs arguments x y s t p q = sym p ∙ q
 
-pub exports-why-tallowbrim-place :
+pub exports_why-tallowbrim_place :
     OneAnswer 2 tallowbrim-place-kinds.ps tallowbrim-place-kinds.r {A = ℕ × List ℕ} (λ κs x s. (x, s.1.1.1.1.0.now))
     tallowbrim-place-reads.Post
-exports-why-tallowbrim-place κs arguments x y s t p q = sym p ∙ q
+exports_why-tallowbrim_place κs arguments x y s t p q = sym p ∙ q
 
 pub exports_lawful-tallowbrim_lawful : OneAnswer 3 tallowbrim-lawful-kinds.ps tallowbrim-lawful-kinds.r result tallowbrim-lawful-reads.Post
 exports_lawful-tallowbrim_lawful κs arguments x y s t p q = p ∙ sym q
 
-pub exports-lawful-tallowbrim-difference :
+pub exports_lawful-tallowbrim_difference :
     OneAnswer 4 tallowbrim-difference-kinds.ps tallowbrim-difference-kinds.r {A = ℕ × List ℕ} (λ κs x s. (x, s.1.1.1.1.0.now))
     tallowbrim-difference-reads.Post
-exports-lawful-tallowbrim-difference κs arguments x y s t p q = sym p ∙ q
+exports_lawful-tallowbrim_difference κs arguments x y s t p q = sym p ∙ q
 
 pub exports_end-state_number : OneAnswer 0 state-number-kinds.ps state-number-kinds.r result state-number-reads.Post
 exports_end-state_number κs arguments x y s t p q = p ∙ sym q
@@ -168,63 +168,63 @@ exports_end-put_end κs arguments x y s t p q = p ∙ sym q
 pub exports_quick-tallowbrim_fresh : OneAnswer 3 tallowbrim-fresh-kinds.ps tallowbrim-fresh-kinds.r result_and_buffer tallowbrim-fresh-reads.Post
 exports_quick-tallowbrim_fresh κs arguments x y s t p q = sym p ∙ q
 
-pub exports-quick-tallowbrim-begin :
+pub exports_quick-tallowbrim_begin :
     OneAnswer 7 tallowbrim-begin-kinds.ps tallowbrim-begin-kinds.r {A = (ℕ × List ℕ × List ℕ) × List ℕ × List ℕ}
     (λ κs x s. let lent = s.1.1.1.1 in ((x, s.0.now, lent.1.1.1.0.now), lent.0.now, lent.1.1.0.now))
     tallowbrim-begin-reads.Post
-exports-quick-tallowbrim-begin κs arguments x y s t p q =
+exports_quick-tallowbrim_begin κs arguments x y s t p q =
     ap (λ (c : Called). ((c.number, c.end, c.out), c.sent, c.output)) (sym p ∙ q)
 
-pub exports-quick-tallowbrim-deliver :
+pub exports_quick-tallowbrim_deliver :
     OneAnswer 6 tallowbrim-deliver-kinds.ps tallowbrim-deliver-kinds.r {A = Called}
     (λ κs x s.
     let lent = s.1.1.1 in
     record { number = x; end = s.0.now; out = lent.1.1.1.0.now; sent = lent.0.now; got = lent.1.0.now; output = lent.1.1.0.now })
     tallowbrim-deliver-reads.Post
-exports-quick-tallowbrim-deliver κs arguments x y s t p q = sym p ∙ q
+exports_quick-tallowbrim_deliver κs arguments x y s t p q = sym p ∙ q
 
-pub exports-quick-tallowbrim-tick :
+pub exports_quick-tallowbrim_tick :
     OneAnswer 5 tallowbrim-tick-kinds.ps tallowbrim-tick-kinds.r {A = (ℕ × List ℕ × List ℕ) × List ℕ}
     (λ κs x s. let output = s.1.1.1 in ((x, s.0.now, output.1.0.now), output.0.now))
     tallowbrim-tick-reads.Post
-exports-quick-tallowbrim-tick κs arguments x y s t p q = ap (λ (c : Called). ((c.number, c.end, c.out), c.output)) (sym p ∙ q)
+exports_quick-tallowbrim_tick κs arguments x y s t p q = ap (λ (c : Called). ((c.number, c.end, c.out), c.output)) (sym p ∙ q)
 
-pub exports-quick-tallowbrim-state :
+pub exports_quick-tallowbrim_state :
     OneAnswer 2 tallowbrim-state-kinds.ps tallowbrim-state-kinds.r {A = ℕ × List ℕ} (λ κs x s. (x, s.1.0.now))
     tallowbrim-state-reads.Post
-exports-quick-tallowbrim-state κs arguments x y s t p q = sym p ∙ q
+exports_quick-tallowbrim_state κs arguments x y s t p q = sym p ∙ q
 
-pub exports-quick-tallowbrim-agreed :
+pub exports_quick-tallowbrim_agreed :
     OneAnswer 2 tallowbrim-agreed-kinds.ps tallowbrim-agreed-kinds.r {A = ℕ × List ℕ} (λ κs x s. (x, s.1.0.now))
     tallowbrim-agreed-reads.Post
-exports-quick-tallowbrim-agreed κs arguments x y s t p q = sym p ∙ q
+exports_quick-tallowbrim_agreed κs arguments x y s t p q = sym p ∙ q
 
-pub exports-quick-tallowbrim-nonce :
+pub exports_quick-tallowbrim_nonce :
     OneAnswer 3 tallowbrim-nonce-kinds.ps tallowbrim-nonce-kinds.r {A = ℕ × List ℕ × List ℕ}
     (λ κs x s. let lent = s.1.1.1 in (x, lent.1.0.now, lent.0.now))
     tallowbrim-nonce-reads.Post
-exports-quick-tallowbrim-nonce κs arguments x y s t p q = sym p ∙ q
+exports_quick-tallowbrim_nonce κs arguments x y s t p q = sym p ∙ q
 
-pub exports-sequence-tallowbrim-step :
+pub exports_sequence-tallowbrim_step :
     OneAnswer 2 tallowbrim-step-kinds.ps tallowbrim-step-kinds.r {A = (ℕ × List ℕ) × List ℕ} (λ κs x s. ((x, s.1.1.1.0.now), s.0.now))
     tallowbrim-step-reads.Post
-exports-sequence-tallowbrim-step κs arguments x y s t p q = sym p ∙ q
+exports_sequence-tallowbrim_step κs arguments x y s t p q = sym p ∙ q
 
-pub exports-sequence-tallowbrim-loss-line :
+pub exports_sequence-tallowbrim_loss_line :
     OneAnswer 2 tallowbrim-loss-line-kinds.ps tallowbrim-loss-line-kinds.r {A = ℕ × List ℕ} (λ κs x s. (x, s.1.0.now))
     tallowbrim-loss-line-reads.Post
-exports-sequence-tallowbrim-loss-line κs arguments x y s t p q = sym p ∙ q
+exports_sequence-tallowbrim_loss_line κs arguments x y s t p q = sym p ∙ q
 
-pub exports-sequence-tallowbrim-plain-step :
+pub exports_sequence-tallowbrim_plain_step :
     OneAnswer 2 tallowbrim-plain-step-kinds.ps tallowbrim-plain-step-kinds.r {A = (ℕ × List ℕ) × List ℕ}
     (λ κs x s. ((x, s.1.1.1.0.now), s.0.now))
     tallowbrim-plain-step-reads.Post
-exports-sequence-tallowbrim-plain-step κs arguments x y s t p q = sym p ∙ q
+exports_sequence-tallowbrim_plain_step κs arguments x y s t p q = sym p ∙ q
 
-pub exports-sequence-tallowbrim-plain-loss-line :
+pub exports_sequence-tallowbrim_plain_loss_line :
     OneAnswer 2 tallowbrim-plain-loss-line-kinds.ps tallowbrim-plain-loss-line-kinds.r {A = ℕ × List ℕ} (λ κs x s. (x, s.1.0.now))
     tallowbrim-plain-loss-line-reads.Post
-exports-sequence-tallowbrim-plain-loss-line κs arguments x y s t p q = sym p ∙ q
+exports_sequence-tallowbrim_plain_loss_line κs arguments x y s t p q = sym p ∙ q
 
 pub exports_sequence-tallowbrim_add : OneAnswer 1 tallowbrim-add-kinds.ps tallowbrim-add-kinds.r result_and_buffer tallowbrim-add-reads.Post
 exports_sequence-tallowbrim_add κs arguments x y s t p q = sym p ∙ q
@@ -232,42 +232,42 @@ exports_sequence-tallowbrim_add κs arguments x y s t p q = sym p ∙ q
 pub exports_sequence-tallowbrim_remove : OneAnswer 1 tallowbrim-remove-kinds.ps tallowbrim-remove-kinds.r result_and_buffer tallowbrim-remove-reads.Post
 exports_sequence-tallowbrim_remove κs arguments x y s t p q = sym p ∙ q
 
-pub exports-sequence-tallowbrim-packet :
+pub exports_sequence-tallowbrim_packet :
     OneAnswer 3 tallowbrim-packet-kinds.ps tallowbrim-packet-kinds.r {A = (ℕ × List ℕ) × List ℕ} (λ κs x s. ((x, s.1.1.1.1.1.0.now), s.0.now))
     tallowbrim-packet-reads.Post
-exports-sequence-tallowbrim-packet κs arguments x y s t p q = sym p ∙ q
+exports_sequence-tallowbrim_packet κs arguments x y s t p q = sym p ∙ q
 
-pub exports-sequence-tallowbrim-send :
+pub exports_sequence-tallowbrim_send :
     OneAnswer 2 tallowbrim-send-kinds.ps tallowbrim-send-kinds.r {A = (ℕ × List ℕ) × List ℕ} (λ κs x s. ((x, s.1.1.1.1.0.now), s.0.now))
     tallowbrim-send-reads.Post
-exports-sequence-tallowbrim-send κs arguments x y s t p q = sym p ∙ q
+exports_sequence-tallowbrim_send κs arguments x y s t p q = sym p ∙ q
 
-pub exports-sequence-tallowbrim-loss :
+pub exports_sequence-tallowbrim_loss :
     OneAnswer 2 tallowbrim-loss-kinds.ps tallowbrim-loss-kinds.r {A = ℕ × List ℕ} (λ κs x s. (x, s.1.1.1.1.0.now))
     tallowbrim-loss-reads.Post
-exports-sequence-tallowbrim-loss κs arguments x y s t p q = sym p ∙ q
+exports_sequence-tallowbrim_loss κs arguments x y s t p q = sym p ∙ q
 
-pub exports-capture-tallowbrim-file-header :
+pub exports_capture-tallowbrim_file_header :
     OneAnswer 2 tallowbrim-file-header-kinds.ps tallowbrim-file-header-kinds.r {A = ℕ × List ℕ} (λ κs x s. (x, s.1.0.now))
     tallowbrim-file-header-reads.Post
-exports-capture-tallowbrim-file-header κs arguments x y s t p q = sym p ∙ q
+exports_capture-tallowbrim_file_header κs arguments x y s t p q = sym p ∙ q
 
-pub exports-capture-tallowbrim-header-cause :
+pub exports_capture-tallowbrim_header_cause :
     OneAnswer 2 tallowbrim-header-cause-kinds.ps tallowbrim-header-cause-kinds.r {A = ℕ × List ℕ} (λ κs x s. (x, s.1.0.now))
     tallowbrim-header-cause-reads.Post
-exports-capture-tallowbrim-header-cause κs arguments x y s t p q = sym p ∙ q
+exports_capture-tallowbrim_header_cause κs arguments x y s t p q = sym p ∙ q
 
-pub exports-capture-tallowbrim-record-header :
+pub exports_capture-tallowbrim_record_header :
     OneAnswer 2 tallowbrim-record-header-kinds.ps tallowbrim-record-header-kinds.r {A = ℕ × List ℕ} (λ κs x s. (x, s.1.1.0.now))
     tallowbrim-record-header-reads.Post
-exports-capture-tallowbrim-record-header κs arguments x y s t p q = sym p ∙ q
+exports_capture-tallowbrim_record_header κs arguments x y s t p q = sym p ∙ q
 
-pub exports-capture-tallowbrim-carried :
+pub exports_capture-tallowbrim_carried :
     OneAnswer 2 tallowbrim-carried-kinds.ps tallowbrim-carried-kinds.r {A = ℕ × List ℕ} (λ κs x s. (x, s.1.1.0.now))
     tallowbrim-carried-reads.Post
-exports-capture-tallowbrim-carried κs arguments x y s t p q = sym p ∙ q
+exports_capture-tallowbrim_carried κs arguments x y s t p q = sym p ∙ q
 
-pub exports-record-tallowbrim-record :
+pub exports_record-tallowbrim_record :
     OneAnswer 3 tallowbrim-record-kinds.ps tallowbrim-record-kinds.r {A = (ℕ × List ℕ) × List ℕ} (λ κs x s. ((x, s.1.1.1.0.now), s.0.now))
     tallowbrim-record-reads.Post
-exports-record-tallowbrim-record κs arguments x y s t p q = sym p ∙ q
+exports_record-tallowbrim_record κs arguments x y s t p q = sym p ∙ q

@@ -126,20 +126,20 @@ quick_write-put_longer κs arguments x y s t p q = sym p ∙ q
 pub quick_write-put_three : OneAnswer 1 put-three-kinds.ps put-three-kinds.r result_and_buffer put-three-reads.Post
 quick_write-put_three κs arguments x y s t p q = sym p ∙ q
 
-pub quick-begin-begin :
+pub quick_begin-begin :
     OneAnswer 5 begin-kinds.ps begin-kinds.r {A = Stepped × List ℕ × List ℕ}
     (λ κs x s. let lent = s.1.1.1.1 in (x, lent.0.now, lent.1.1.0.now))
     begin-reads.Post
-quick-begin-begin κs arguments x y s t p q = ap (λ (a : After). (a.step, a.sent, a.output)) (sym p ∙ q)
+quick_begin-begin κs arguments x y s t p q = ap (λ (a : After). (a.step, a.sent, a.output)) (sym p ∙ q)
 
-pub quick-tick-tick :
+pub quick_tick-tick :
     OneAnswer 3 tick-kinds.ps tick-kinds.r {A = Stepped × List ℕ}
     (λ κs x s. let output = s.1.1.1.0 in (x, output.now))
     tick-reads.Post
-quick-tick-tick κs arguments x y s t p q = ap (λ (a : After). (a.step, a.output)) (sym p ∙ q)
+quick_tick-tick κs arguments x y s t p q = ap (λ (a : After). (a.step, a.output)) (sym p ∙ q)
 
-pub quick-deliver-deliver :
+pub quick_deliver-deliver :
     OneAnswer 4 deliver-kinds.ps deliver-kinds.r {A = After}
     (λ κs x s. let lent = s.1.1.1 in record { step = x; sent = lent.0.now; got = lent.1.0.now; output = lent.1.1.0.now })
     deliver-reads.Post
-quick-deliver-deliver κs arguments x y s t p q = sym p ∙ q
+quick_deliver-deliver κs arguments x y s t p q = sym p ∙ q

@@ -88,23 +88,23 @@ abbrev pub Lent : (before : Receive) (number : ℕ) (integrity : Bool) (after : 
 Lent before number integrity after verdict = judged before number integrity ≡ record { receive = after; verdict = verdict }
 
 module _ {M : Type 1} {𝓤 : Ura M} (𝓛 : Logic 𝓤) (at_mem : Memory → SProp 𝓤) (run : Routine → Fun 𝓤) where
-  pub sequence-record-step-in-place-claim :
+  pub sequence_record-step_in_place_claim :
       (κs : Lfts 1) (a : ArgsD step-in-place-contract.signature κs) (x : Verdict) (s : AtExit step-in-place-contract.ended κs) →
       (step-in-place-contract.clauses 𝓛 at_mem run κs a).ensures tt x s ≡ fact 𝓤 (Lent a.0.now a.1.0 a.1.1.0 s.0.now x)
-  sequence-record-step-in-place-claim κs a x s = refl
+  sequence_record-step_in_place_claim κs a x s = refl
 
-  pub sequence-record-step-lent-claim :
+  pub sequence_record-step_lent_claim :
       (κs : Lfts 0) (a : ArgsD step-lent-contract.signature κs) (x : Judged) (s : AtExit step-lent-contract.ended κs) →
       (step-lent-contract.clauses 𝓛 at_mem run κs a).ensures tt x s ≡ fact 𝓤 (x ≡ judged a.0 a.1.0 a.1.1.0)
-  sequence-record-step-lent-claim κs a x s = refl
+  sequence_record-step_lent_claim κs a x s = refl
 
-pub sequence-record-step-in-place :
+pub sequence_record-step_in_place :
     (before : Receive) (number : ℕ) (integrity : Bool) (r q : Receive) (x y : Verdict) →
     Lent before number integrity r x → Lent before number integrity q y →
     ◌≡◌ {A = Judged} (record { receive = r; verdict = x }) (record { receive = q; verdict = y })
-sequence-record-step-in-place before number integrity r q x y p e = sym p ∙ e
+sequence_record-step_in_place before number integrity r q x y p e = sym p ∙ e
 
-pub sequence-record-step-lent :
+pub sequence_record-step_lent :
     (before : Receive) (number : ℕ) (integrity : Bool) (x y : Judged) →
     x ≡ judged before number integrity → y ≡ judged before number integrity → x ≡ y
-sequence-record-step-lent before number integrity x y p q = p ∙ sym q
+sequence_record-step_lent before number integrity x y p q = p ∙ sym q
