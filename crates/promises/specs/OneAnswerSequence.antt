@@ -82,8 +82,7 @@ sequence_plain-step κs arguments x y s t p q =
 pub sequence_plain-loss_line : OneAnswer 1 plain-loss-line-kinds.ps plain-loss-line-kinds.r result plain-loss-line-reads.Post
 sequence_plain-loss_line κs arguments x y s t p q = p ∙ sym q
 
--- The lent record is proved by walks by hand, for which there is no `Post`: each of these contracts stands as the program logic's claim, the claim
--- is a fact, and no second record and verdict satisfy it.
+-- Of the lent record each contract stands as the program logic's claim, the claim is a fact, and no second record and verdict satisfy it.
 abbrev pub Lent : (before : Receive) (number : ℕ) (integrity : Bool) (after : Receive) (verdict : Verdict) → Type 0
 Lent before number integrity after verdict = judged before number integrity ≡ record { receive = after; verdict = verdict }
 
