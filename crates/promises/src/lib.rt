@@ -1,1 +1,3 @@
 // Theorems alone: specs/ has them.
+
+#![tactic(auto)]
