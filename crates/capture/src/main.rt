@@ -24,8 +24,8 @@ type Large = [u8; 65536];
 type Occurred = [bool; 8202];
 
 // What goes from record to record: what is held of the input and whether it has ended; how far the output is filled; whether to
-// read on; whether the reader of the listing has left; the next record's number and the byte where its header begins; what was said of on standard error; how far the file
-// goes and where a word on progress is due next.
+// read on; whether the reader of the listing has left; the next record's number and the byte where its header begins; what was
+// said of on standard error; how far the file goes and where a word on progress is due next.
 #[derive(Clone, Copy)]
 struct State {
     held: Held,

@@ -32,9 +32,9 @@ pub(crate) fn first(size: u64) -> u64 {
     if size == 0 { u64::MAX } else { size / 10 + 1 }
 }
 
-// Says how far the listing is, a line at each tenth.
+// Says how far the listing is, a line at each tenth; nothing once its reader has left.
 pub(crate) fn tell(rt: &impl Runtime, mut state: State) -> State {
-    if state.place < state.due {
+    if state.left | (state.place < state.due) {
         return state;
     }
     let tenth = state.size / 10 + 1;
