@@ -1,0 +1,3 @@
+pub mod Payloads
+pub mod Reply
+pub mod Sets
