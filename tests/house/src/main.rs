@@ -120,7 +120,7 @@ fn contracts(root: &Path, tally: &mut Tally) {
         if excepted(&page, krate, name) {
             continue;
         }
-        let theorem = format!("{krate}-{name}").replace('_', "-");
+        let theorem = format!("{krate}-{name}");
         tally.fact(theorems.contains(&format!("pub {theorem} :")), || format!("there is no theorem {theorem}"));
         tally.fact(edited(), || format!("no must-fail edit names {krate}::{name}"));
     }
@@ -132,12 +132,12 @@ fn static_libraries(root: &Path) -> Vec<String> {
     crates.filter(|krate| krate.is_static).map(|krate| krate.name).collect()
 }
 
-/// The theorems that a contract has one answer, of all families. Their names are read with dashes alone.
+/// The theorems that a contract has one answer, of all families.
 fn one_answer(root: &Path) -> String {
     let files = below(&root.join("crates/promises/specs"), "antt");
     let of_answers =
         |path: &&PathBuf| path.file_name().is_some_and(|name| name.to_string_lossy().starts_with("OneAnswer"));
-    files.iter().filter(of_answers).map(|path| text(path).replace('_', "-")).collect()
+    files.iter().filter(of_answers).map(|path| text(path)).collect()
 }
 
 /// Whether the page's part "Exceptions" names this function, whose contract need then not have one answer alone.
