@@ -1,8 +1,6 @@
 // `frame ORIGINAL BYTES`: what is listed of a record of a capture with these bytes and that original length, with the table of SA
 // entries.
-use bench_words::hex::Decoded;
-use bench_words::number::Number;
-use bench_words::{hex, number, say, words};
+use bench_words::{hex, number, words};
 use capture_record::{handed_in, list_record};
 use capture_words::what;
 use sequence_table::table::Table;
@@ -14,14 +12,10 @@ pub(crate) fn answer(
     bytes: &mut [u8],
     out: &mut [u8],
     said: usize,
-) -> usize {
-    let Number::Is(original) = number::decimal(words::nth(line, 1), 4294967295) else {
-        return say::bad_line(out, said);
-    };
-    let Decoded::To(end) = hex::decode(words::nth(line, 2), bytes, 0) else {
-        return say::bad_line(out, said);
-    };
+) -> Option<usize> {
+    let original = number::decimal(words::nth(line, 1), u32::MAX)?;
+    let end = hex::decode(words::nth(line, 2), bytes, 0)?;
     let record = front(bytes, end);
     let listed = list_record(lives, original, record);
-    what(out, said, listed, handed_in(original, record))
+    Some(what(out, said, listed, handed_in(original, record)))
 }

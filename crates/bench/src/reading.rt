@@ -1,19 +1,18 @@
 // `read BYTES`: what a message reads as.
-use bench_words::hex::Decoded;
 use bench_words::say::append;
 use bench_words::{hex, say, words};
 use message_chain::{Message, Payload};
 use wire_read::front;
 
-pub(crate) fn answer(line: &[u8], bytes: &mut [u8], out: &mut [u8], said: usize) -> usize {
-    let Decoded::To(end) = hex::decode(words::nth(line, 1), bytes, 0) else {
-        return say::bad_line(out, said);
-    };
-    let m = front(bytes, end);
-    let read = message_chain::read(m);
-    match read {
-        Message::Refused(n) => say::refused(out, said, n),
-        Message::Read { exchange, count } => {
+pub(crate) fn answer(line: &[u8], bytes: &mut [u8], out: &mut [u8], said: usize) -> Option<usize> {
+    let end = hex::decode(words::nth(line, 1), bytes, 0)?;
+    Some(told(front(bytes, end), out, said))
+}
+
+fn told(m: &[u8], out: &mut [u8], said: usize) -> usize {
+    match message_chain::read(m) {
+        Err(refusal) => say::refused(out, said, refusal.number()),
+        Ok(Message { exchange, count }) => {
             let said = append(out, said, b"read");
             let said = say::number(out, said, exchange as u64);
             let said = say::number(out, said, count as u64);
@@ -24,10 +23,8 @@ pub(crate) fn answer(line: &[u8], bytes: &mut [u8], out: &mut [u8], said: usize)
 
 fn payloads(m: &[u8], count: u8, out: &mut [u8], said: usize) -> usize {
     let mut said = said;
-    let mut k = 0;
-    while k < count {
+    for k in 0..count {
         said = payload(message_chain::payload_at(m, k), out, said);
-        k += 1;
     }
     said
 }

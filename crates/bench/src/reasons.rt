@@ -1,63 +1,50 @@
 // `why BOOK BYTES`: of each set that a message offers and each line of the book, that it suits or at what it fails.
-use bench_words::hex::Parted;
 use bench_words::say::append;
 use bench_words::{hex, say, words};
 use policy_cause::{Cause, PairCause, pair_cause};
 use policy_choice::choose::{line_count, sa_body};
 use policy_lines::LineNumber;
-use policy_why::{Offer, Places, Why, cause_at, offered};
+use policy_why::{Places, Why, cause_at, offered};
 use sa_fields::{proposal_number, protocol, transform_count, transform_number};
 use sa_items::{proposal, proposal_count, transform};
 use sa_sets::{set, set_count};
 use wire_read::{after, front};
 
-pub(crate) fn answer(line: &[u8], bytes: &mut [u8], out: &mut [u8], said: usize) -> usize {
-    let Parted::At { middle, end } = hex::decode_two(
-        words::nth(line, 1),
-        words::nth(line, 2),
-        bytes,
-    ) else {
-        return say::bad_line(out, said);
-    };
+pub(crate) fn answer(line: &[u8], bytes: &mut [u8], out: &mut [u8], said: usize) -> Option<usize> {
+    let (middle, end) = hex::decode_two(words::nth(line, 1), words::nth(line, 2), bytes)?;
     let both = front(bytes, end);
-    reasons(front(both, middle), after(both, middle), out, said)
+    Some(reasons(front(both, middle), after(both, middle), out, said))
 }
 
 fn reasons(book: &[u8], m: &[u8], out: &mut [u8], said: usize) -> usize {
-    let offer = offered(book, m);
-    match offer {
-        Offer::Refused(n) => say::refused(out, said, n),
-        Offer::Readable { exchange, count: _ } => {
+    match offered(book, m) {
+        Err(refusal) => say::refused(out, said, refusal.number()),
+        Ok(offer) => {
             let said = append(out, said, b"why");
-            sets(exchange, book, m, out, said)
+            sets(offer.exchange, book, m, out, said)
         }
     }
 }
 
 fn sets(exchange: u8, book: &[u8], m: &[u8], out: &mut [u8], said: usize) -> usize {
-    let count = set_count(sa_body(m));
-    let mut said = said;
-    let mut at = Places {
+    let first = Places {
         set: 0,
         line: 0,
         proposal: 0,
         transform: 0,
     };
-    while at.set < count {
-        said = lines(exchange, book, m, at, out, said);
-        at.set += 1;
+    let mut said = said;
+    for set in 0..set_count(sa_body(m)) {
+        said = lines(exchange, book, m, Places { set, ..first }, out, said);
     }
     said
 }
 
 fn lines(exchange: u8, book: &[u8], m: &[u8], at: Places, out: &mut [u8], said: usize) -> usize {
-    let count = line_count(exchange, book);
     let mut said = said;
-    let mut at = at;
-    while at.line < count {
-        let line = LineNumber(at.line + 1);
-        said = pair(exchange, line, book, m, at, out, said);
-        at.line += 1;
+    for line in 0..line_count(exchange, book) {
+        let at = Places { line, ..at };
+        said = pair(exchange, LineNumber(line + 1), book, m, at, out, said);
     }
     said
 }
@@ -76,32 +63,26 @@ fn pair(
     let number = proposal_number(proposal(0, s));
     let said = labelled(b" set", number.0 as u64, out, said);
     let said = labelled(b" line", line.0 as u64, out, said);
-    let told = pair_cause(exchange, line, book, s);
-    match told {
-        PairCause::Suits => append(out, said, b" suits"),
-        PairCause::Protocols => append(out, said, b" protocols"),
-        PairCause::Transforms => proposals(book, m, s, at, out, said),
+    match pair_cause(exchange, line, book, s) {
+        None => append(out, said, b" suits"),
+        Some(PairCause::Protocols) => append(out, said, b" protocols"),
+        Some(PairCause::Transforms) => proposals(book, m, s, at, out, said),
     }
 }
 
 fn proposals(book: &[u8], m: &[u8], s: &[u8], at: Places, out: &mut [u8], said: usize) -> usize {
-    let count = proposal_count(s);
     let mut said = said;
-    let mut at = at;
-    while at.proposal < count {
-        said = transforms(book, m, proposal(at.proposal, s), at, out, said);
-        at.proposal += 1;
+    for k in 0..proposal_count(s) {
+        let at = Places { proposal: k, ..at };
+        said = transforms(book, m, proposal(k, s), at, out, said);
     }
     said
 }
 
 fn transforms(book: &[u8], m: &[u8], p: &[u8], at: Places, out: &mut [u8], said: usize) -> usize {
-    let count = transform_count(p);
     let mut said = said;
-    let mut at = at;
-    while at.transform < count {
-        said = transform_at(book, m, p, at, out, said);
-        at.transform += 1;
+    for k in 0..transform_count(p) {
+        said = transform_at(book, m, p, Places { transform: k, ..at }, out, said);
     }
     said
 }
@@ -112,16 +93,15 @@ fn transform_at(book: &[u8], m: &[u8], p: &[u8], at: Places, out: &mut [u8], sai
     let number = transform_number(transform(at.transform, p));
     let said = labelled(b" protocol", protocol(p) as u64, out, said);
     let said = labelled(b" transform", number.0 as u64, out, said);
-    let why = cause_at(book, m, at);
-    match why {
-        Why::Transform(told) => cause(told, out, said),
+    match cause_at(book, m, at) {
+        Ok(Why::Transform(None)) => append(out, said, b" suits"),
+        Ok(Why::Transform(Some(told))) => cause(told, out, said),
         _ => append(out, said, b" none"),
     }
 }
 
 fn cause(told: Cause, out: &mut [u8], said: usize) -> usize {
     match told {
-        Cause::Suits => append(out, said, b" suits"),
         Cause::Id {
             found: _,
             wanted: _,

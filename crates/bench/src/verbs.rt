@@ -1,183 +1,77 @@
 // The table of verbs: the number of words on a line, the verb, and the room that answers it. The verbs of the quick mode
 // ends are bench_ends's.
+use crate::output::Output;
 use crate::{
-    LONGEST, MOST_SAID, State, captured, choosing, element, flush, identification, lawfulness,
-    lent, lives, plain, port, reading, reasons, replying,
+    Held, captured, choosing, element, identification, lawfulness, lent, lives, plain, port,
+    reading, reasons, replying,
 };
 use bench_words::say::append;
 use bench_words::{say, words};
-use sequence_plain::PlainList;
-use sequence_table::table::Table;
-use std::io::Write;
-use wire_read::{byte, equal, front};
 
-// Answers the line that is kept, where it is whole and no end has answered it, and begins the next one.
-pub(crate) fn answer(
-    writer: &mut impl Write,
-    kept: &[u8],
-    known: bool,
-    lives: &mut Table,
-    plain_list: &mut PlainList,
-    bytes: &mut [u8],
-    out: &mut [u8],
-    mut state: State,
-) -> State {
-    if !state.whole {
-        return state;
+// A line is at most so many bytes long, without its line end.
+const LONGEST: usize = 65535;
+
+// Answers a line, with a line end. An empty line and one that begins with # get no answer.
+pub(crate) fn answer(line: &[u8], held: &mut Held, output: &mut Output) {
+    if line.len() == 0 || line[0] == b'#' {
+        return;
     }
-    state = ended(
-        front(kept, state.line),
-        known,
-        lives,
-        plain_list,
-        bytes,
-        out,
-        state,
-    );
-    state.line = 0;
-    state.whole = false;
-    if MOST_SAID < state.said {
-        flush(writer, out, state)
-    } else {
-        state
-    }
+    let said = match told(line, held, &mut output.out, output.said) {
+        Some(said) => said,
+        None => say::bad_line(&mut output.out, output.said),
+    };
+    output.said = append(&mut output.out, said, b"\n");
 }
 
-// An answer has a line end. An empty line and one that begins with # get no answer.
-fn ended(
-    line: &[u8],
-    known: bool,
-    lives: &mut Table,
-    plain_list: &mut PlainList,
-    bytes: &mut [u8],
-    out: &mut [u8],
-    mut state: State,
-) -> State {
-    if line.len() == 0 || byte(line, 0) == b'#' {
-        return state;
-    }
-    state = by_verb(line, known, lives, plain_list, bytes, out, state);
-    state.said = append(out, state.said, b"\n");
-    state
-}
-
-// One family of verbs after another: each passes on what it does not know, and the last calls it a bad line. The ends
-// are the first family, so what they know is answered.
-fn by_verb(
-    line: &[u8],
-    known: bool,
-    lives: &mut Table,
-    plain_list: &mut PlainList,
-    bytes: &mut [u8],
-    out: &mut [u8],
-    mut state: State,
-) -> State {
-    if known {
-        return state;
-    }
+// A line goes to the ends first, and to the other verbs where it is none of theirs. A bad line says nothing.
+fn told(line: &[u8], held: &mut Held, out: &mut [u8], said: usize) -> Option<usize> {
     if LONGEST < line.len() {
-        state.said = say::bad_line(out, state.said);
-        return state;
+        return None;
     }
-    let words = words::count(line);
-    let verb = words::nth(line, 0);
-    if (words == 2) & equal(verb, b"lent") {
-        return lent::new_or_loss(line, out, state);
+    let ends = held.ends;
+    let answered = bench_ends::answer(
+        line,
+        &mut held.sent,
+        &mut held.got,
+        &mut held.bytes,
+        out,
+        said,
+        ends,
+    );
+    if answered.known {
+        let ends = answered.ends;
+        held.ends = ends;
+        Some(answered.said)
+    } else {
+        by_verb(line, held, out, said)
     }
-    if (words == 3) & equal(verb, b"lent") {
-        return lent::step(line, out, state);
-    }
-    state.said = plain_verbs(line, lives, plain_list, bytes, out, state.said);
-    state
 }
 
-// Lines on the plain list, and after them the next family.
-fn plain_verbs(
-    line: &[u8],
-    lives: &mut Table,
-    plain_list: &mut PlainList,
-    bytes: &mut [u8],
-    out: &mut [u8],
-    said: usize,
-) -> usize {
-    let words = words::count(line);
-    let verb = words::nth(line, 0);
-    if (words == 2) & equal(verb, b"plain") {
-        return plain::new_or_loss(line, plain_list, out, said);
+fn by_verb(line: &[u8], held: &mut Held, out: &mut [u8], said: usize) -> Option<usize> {
+    let bytes = &mut held.bytes;
+    let table = &mut held.table;
+    let list = &mut held.plain;
+    let lent = &mut held.lent;
+    match (words::count(line), words::nth(line, 0)) {
+        (2, b"lent") => lent::new_or_loss(line, lent, out, said),
+        (3, b"lent") => lent::step(line, lent, out, said),
+        (2, b"plain") => plain::new_or_loss(line, list, out, said),
+        (3, b"plain") => plain::step(line, list, out, said),
+        (2, b"port") => port::answer(line, bytes, out, said),
+        (2, b"der") => element::answer(line, bytes, out, said),
+        (2, b"read") => reading::answer(line, bytes, out, said),
+        (3, b"identity") => identification::answer(line, bytes, out, said),
+        (2, b"book") => choosing::book(line, bytes, out, said),
+        (3, b"choose") => choosing::choose(line, bytes, out, said),
+        (3, b"why") => reasons::answer(line, bytes, out, said),
+        (3 | 4, b"lawful") => lawfulness::answer(line, bytes, out, said),
+        (6, b"reply") => replying::answer(line, bytes, out, said),
+        (4, b"add") => lives::add(line, table, out, said),
+        (4, b"remove") => lives::remove(line, table, out, said),
+        (5, b"packet") => lives::packet(line, table, bytes, out, said),
+        (4, b"send") => lives::send(line, table, out, said),
+        (4, b"loss") => lives::loss(line, table, out, said),
+        (3, b"frame") => captured::answer(line, table, bytes, out, said),
+        _ => None,
     }
-    if (words == 3) & equal(verb, b"plain") {
-        return plain::step(line, plain_list, out, said);
-    }
-    reading_verbs(line, lives, bytes, out, said)
-}
-
-// Lines that are answered from their bytes alone, and after them the next family.
-fn reading_verbs(
-    line: &[u8],
-    lives: &mut Table,
-    bytes: &mut [u8],
-    out: &mut [u8],
-    said: usize,
-) -> usize {
-    let words = words::count(line);
-    let verb = words::nth(line, 0);
-    if (words == 2) & equal(verb, b"port") {
-        return port::answer(line, bytes, out, said);
-    }
-    if (words == 2) & equal(verb, b"der") {
-        return element::answer(line, bytes, out, said);
-    }
-    if (words == 2) & equal(verb, b"read") {
-        return reading::answer(line, bytes, out, said);
-    }
-    if (words == 3) & equal(verb, b"identity") {
-        return identification::answer(line, bytes, out, said);
-    }
-    if (words == 2) & equal(verb, b"book") {
-        return choosing::book(line, bytes, out, said);
-    }
-    if (words == 3) & equal(verb, b"choose") {
-        return choosing::choose(line, bytes, out, said);
-    }
-    if (words == 3) & equal(verb, b"why") {
-        return reasons::answer(line, bytes, out, said);
-    }
-    if ((words == 3) | (words == 4)) & equal(verb, b"lawful") {
-        return lawfulness::answer(line, bytes, out, said);
-    }
-    if (words == 6) & equal(verb, b"reply") {
-        return replying::answer(line, bytes, out, said);
-    }
-    table_verbs(line, lives, bytes, out, said)
-}
-
-// Lines on the table of SA entries.
-fn table_verbs(
-    line: &[u8],
-    lives: &mut Table,
-    bytes: &mut [u8],
-    out: &mut [u8],
-    said: usize,
-) -> usize {
-    let words = words::count(line);
-    let verb = words::nth(line, 0);
-    if (words == 4) & equal(verb, b"add") {
-        return lives::add(line, lives, out, said);
-    }
-    if (words == 4) & equal(verb, b"remove") {
-        return lives::remove(line, lives, out, said);
-    }
-    if (words == 5) & equal(verb, b"packet") {
-        return lives::packet(line, lives, bytes, out, said);
-    }
-    if (words == 4) & equal(verb, b"send") {
-        return lives::send(line, lives, out, said);
-    }
-    if (words == 4) & equal(verb, b"loss") {
-        return lives::loss(line, lives, out, said);
-    }
-    if (words == 3) & equal(verb, b"frame") {
-        return captured::answer(line, lives, bytes, out, said);
-    }
-    say::bad_line(out, said)
 }

@@ -12,8 +12,7 @@ use bench_words::say::{append, bad_line};
 use bench_words::words::{count, nth};
 use quick_end::Role;
 pub use seats::{Kept, Seats, absent};
-use seats::{Seat, Who, role_of, seat_of, seated};
-use wire_read::equal;
+use seats::{Seat, role_of, seat_of, seated};
 
 #[derive(Clone, Copy)]
 enum Verb {
@@ -25,7 +24,6 @@ enum Verb {
     State,
     Kept,
     Nonce,
-    Other,
 }
 
 // The ends after a line, the place behind what was said, and whether the line's verb is one of an end: where it is none,
@@ -49,8 +47,7 @@ pub fn answer(
 ) -> Answered
     ensures { result.said ≤ length out.new }
 {
-    let verb = verb_of(line);
-    if is_other(verb) {
+    let Some(verb) = verb_of(line) else {
         // Says nothing, and shows the prover that the place lies within the output.
         let said = append(out, said, b"");
         return Answered {
@@ -58,8 +55,8 @@ pub fn answer(
             said,
             ends,
         };
-    }
-    let Who::Is(role) = who(verb, line) else {
+    };
+    let Some(role) = role_on(verb, line) else {
         let said = bad_line(out, said);
         return Answered {
             known: true,
@@ -79,47 +76,24 @@ pub fn answer(
 }
 
 // The verb of a line that has as many words as the verb asks for.
-fn verb_of(line: &[u8]) -> Verb {
-    let words = count(line);
-    let verb = nth(line, 0);
-    if (words == 8) & equal(verb, b"fresh") {
-        return Verb::Fresh;
-    }
-    if (words == 5) & equal(verb, b"room") {
-        return Verb::Room;
-    }
-    if (words == 4) & equal(verb, b"begin") {
-        return Verb::Begin;
-    }
-    if (words == 4) & equal(verb, b"deliver") {
-        return Verb::Deliver;
-    }
-    if (words == 2) & equal(verb, b"tick") {
-        return Verb::Tick;
-    }
-    if (words == 2) & equal(verb, b"state") {
-        return Verb::State;
-    }
-    if (words == 2) & equal(verb, b"kept") {
-        return Verb::Kept;
-    }
-    if (words == 4) & equal(verb, b"nonce") {
-        return Verb::Nonce;
-    }
-    Verb::Other
-}
-
-fn is_other(verb: Verb) -> bool {
-    match verb {
-        Verb::Other => true,
-        _ => false,
+fn verb_of(line: &[u8]) -> Option<Verb> {
+    match (count(line), nth(line, 0)) {
+        (8, b"fresh") => Some(Verb::Fresh),
+        (5, b"room") => Some(Verb::Room),
+        (4, b"begin") => Some(Verb::Begin),
+        (4, b"deliver") => Some(Verb::Deliver),
+        (2, b"tick") => Some(Verb::Tick),
+        (2, b"state") => Some(Verb::State),
+        (2, b"kept") => Some(Verb::Kept),
+        (4, b"nonce") => Some(Verb::Nonce),
+        _ => None,
     }
 }
 
 // The end that a line is on: `begin` is the initiator's alone, every other verb has the end in word 1.
-fn who(verb: Verb, line: &[u8]) -> Who {
+fn role_on(verb: Verb, line: &[u8]) -> Option<Role> {
     match verb {
-        Verb::Begin => Who::Is(Role::Initiator),
+        Verb::Begin => Some(Role::Initiator),
         _ => role_of(nth(line, 1)),
     }
 }
@@ -150,30 +124,18 @@ fn by_verb(
         Verb::Begin => stepping::begin(line, seat, sent, got, bytes, out, said),
         Verb::Deliver => stepping::deliver(line, role, seat, sent, got, bytes, out, said),
         Verb::Tick => stepping::tick(role, seat, sent, got, out, said),
-        _ => {
-            let said = shown(verb, line, role, seat, sent, got, bytes, out, said);
-            Told { seat, said }
-        }
-    }
-}
-
-// The lines that change nothing.
-fn shown(
-    verb: Verb,
-    line: &[u8],
-    role: Role,
-    seat: Seat,
-    sent: &Kept,
-    got: &Kept,
-    bytes: &mut [u8],
-    out: &mut [u8],
-    said: usize,
-) -> usize
-    ensures { result ≤ length out.new }
-{
-    match verb {
-        Verb::State => showing::state(role, seat, got, out, said),
-        Verb::Kept => showing::kept(role, seat, sent, got, out, said),
-        _ => showing::nonce(line, role, bytes, out, said),
+        // The rest changes nothing.
+        Verb::State => Told {
+            seat,
+            said: showing::state(role, seat, got, out, said),
+        },
+        Verb::Kept => Told {
+            seat,
+            said: showing::kept(role, seat, sent, got, out, said),
+        },
+        Verb::Nonce => Told {
+            seat,
+            said: showing::nonce(line, role, bytes, out, said),
+        },
     }
 }

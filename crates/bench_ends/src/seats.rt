@@ -1,8 +1,8 @@
 // The two ends of quick mode as they go from line to line, and which part of the kept buffers is lent to them.
-ghost use Rattle.std.specs.Prelude.{◌≡◌, false, ◌≤◌};
+ghost use Rattle.std.specs.Prelude.{◌≡◌, None, ◌≤◌};
 
-use quick_end::{End, Role, fresh};
-use wire_read::{after, equal, front};
+use quick_end::{End, Role};
+use wire_read::{after, front};
 
 // A kept buffer of each end: 4,096 bytes of the initiator's, and as many of the responder's behind them.
 pub type Kept = [u8; 8192];
@@ -15,11 +15,10 @@ pub struct Room {
     pub output: u16,
 }
 
-// An end, whether it was made, and what is lent to it, which outlives the end.
+// An end, once it is made, and what is lent to it, which outlives the end.
 #[derive(Clone, Copy)]
 pub struct Seat {
-    pub made: bool,
-    pub end: End,
+    pub end: Option<End>,
     pub room: Room,
 }
 
@@ -29,43 +28,32 @@ pub struct Seats {
     pub responder: Seat,
 }
 
-#[derive(Clone, Copy)]
-pub(crate) enum Who {
-    Is(Role),
-    Wrong,
-}
-
 // The word that names an end: `i` or `r`.
-pub(crate) fn role_of(word: &[u8]) -> Who {
-    if equal(word, b"i") {
-        Who::Is(Role::Initiator)
-    } else if equal(word, b"r") {
-        Who::Is(Role::Responder)
-    } else {
-        Who::Wrong
+pub(crate) fn role_of(word: &[u8]) -> Option<Role> {
+    match word {
+        b"i" => Some(Role::Initiator),
+        b"r" => Some(Role::Responder),
+        _ => None,
     }
 }
 
 // No end is made yet.
 pub fn absent() -> Seats
-    ensures { (result.initiator.made ≡ false) × (result.responder.made ≡ false) }
+    ensures { (result.initiator.end ≡ None) × (result.responder.end ≡ None) }
 {
-    let initiator = empty(Role::Initiator);
-    let responder = empty(Role::Responder);
+    let initiator = empty();
+    let responder = empty();
     Seats {
         initiator,
         responder,
     }
 }
 
-fn empty(role: Role) -> Seat
-    ensures { result.made ≡ false }
+fn empty() -> Seat
+    ensures { result.end ≡ None }
 {
-    let refused = fresh(role, 0, 0, b"", 0, 0, b"");
-    let end = refused.end;
     Seat {
-        made: false,
-        end,
+        end: None,
         room: Room {
             sent: 2048,
             got: 2048,
@@ -103,7 +91,7 @@ pub(crate) fn place(role: Role) -> usize
 pub(crate) fn size(asked: u16) -> usize
     ensures { result ≤ 4096 }
 {
-    if asked < 4096 { asked as usize } else { 4096 }
+    (asked as usize).min(4096)
 }
 
 // What is lent of an end's kept buffer.

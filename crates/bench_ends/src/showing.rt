@@ -2,7 +2,6 @@
 ghost use Rattle.std.specs.Prelude.{◌≤◌, length};
 
 use crate::seats::{Kept, Seat, lent, place};
-use bench_words::hex::Parted;
 use bench_words::say::append;
 use bench_words::words::nth;
 use bench_words::{hex, say};
@@ -13,10 +12,9 @@ use wire_write::put_be32;
 pub(crate) fn state(role: Role, seat: Seat, got: &Kept, out: &mut [u8], said: usize) -> usize
     ensures { result ≤ length out.new }
 {
-    if !seat.made {
+    let Some(end) = seat.end else {
         return append(out, said, b"none");
-    }
-    let end = seat.end;
+    };
     end_state(end, after(got, place(role)), out, said)
 }
 
@@ -138,7 +136,7 @@ pub(crate) fn kept(
 ) -> usize
     ensures { result ≤ length out.new }
 {
-    if !seat.made {
+    if seat.end.is_none() {
         return append(out, said, b"none");
     }
     let room = seat.room;
@@ -151,7 +149,7 @@ pub(crate) fn kept(
 pub(crate) fn nonce(line: &[u8], role: Role, bytes: &mut [u8], out: &mut [u8], said: usize) -> usize
     ensures { result ≤ length out.new }
 {
-    let Parted::At { middle, end } = hex::decode_two(nth(line, 2), nth(line, 3), bytes) else {
+    let Some((middle, end)) = hex::decode_two(nth(line, 2), nth(line, 3), bytes) else {
         return say::bad_line(out, said);
     };
     let both = front(bytes, end);

@@ -3,14 +3,11 @@
 ghost use Rattle.std.specs.Prelude.{◌≡◌, ◌≤◌, length};
 
 use crate::Told;
-use crate::seats::{Kept, Seat, lent, place, size};
-use bench_words::hex::{Decoded, Parted};
-use bench_words::integrity::Integrity;
-use bench_words::number::Number;
+use crate::seats::{Kept, Room, Seat, lent, place, size};
 use bench_words::say::append;
 use bench_words::words::nth;
 use bench_words::{hex, integrity, number, say};
-use quick_end::Role;
+use quick_end::{End, Role};
 use quick_step::{StepAnswer, Stepped};
 use wire_read::{after, front};
 
@@ -25,11 +22,11 @@ pub(crate) fn begin(
 ) -> Told
     ensures { result.said ≤ length out.new }
 {
-    let Number::Is(id) = number::decimal(nth(line, 1), 4294967295) else {
+    let Some(id) = number::decimal(nth(line, 1), u32::MAX) else {
         let said = say::bad_line(out, said);
         return Told { seat, said };
     };
-    let Parted::At { middle, end } = hex::decode_two(nth(line, 2), nth(line, 3), bytes) else {
+    let Some((middle, end)) = hex::decode_two(nth(line, 2), nth(line, 3), bytes) else {
         let said = say::bad_line(out, said);
         return Told { seat, said };
     };
@@ -58,17 +55,18 @@ fn begin_with(
 ) -> Told
     ensures { result.said ≤ length out.new }
 {
-    if !seat.made {
+    let Some(end) = seat.end else {
         let said = append(out, said, b"none");
         return Told { seat, said };
-    }
+    };
     let mut output = [0u8; 4096];
-    let stepped = begun(seat, id, first, second, sent, got, &mut output);
+    let stepped = begun(end, seat.room, id, first, second, sent, got, &mut output);
     told(seat, stepped, &output, out, said)
 }
 
 fn begun(
-    seat: Seat,
+    end: End,
+    room: Room,
     id: u32,
     first: &[u8],
     second: &[u8],
@@ -78,8 +76,6 @@ fn begun(
 ) -> Stepped
     requires { (length sent.old ≡ 8192) × (length output.old ≡ 4096) }
 {
-    let room = seat.room;
-    let end = seat.end;
     let to = size(room.sent);
     let width = size(room.output);
     quick_begin::begin(
@@ -105,11 +101,11 @@ pub(crate) fn deliver(
 ) -> Told
     ensures { result.said ≤ length out.new }
 {
-    let Integrity::Holds(holds) = integrity::read(nth(line, 2)) else {
+    let Some(holds) = integrity::read(nth(line, 2)) else {
         let said = say::bad_line(out, said);
         return Told { seat, said };
     };
-    let Decoded::To(end) = hex::decode(nth(line, 3), bytes, 0) else {
+    let Some(end) = hex::decode(nth(line, 3), bytes, 0) else {
         let said = say::bad_line(out, said);
         return Told { seat, said };
     };
@@ -128,18 +124,19 @@ fn deliver_to(
 ) -> Told
     ensures { result.said ≤ length out.new }
 {
-    if !seat.made {
+    let Some(end) = seat.end else {
         let said = append(out, said, b"none");
         return Told { seat, said };
-    }
+    };
     let mut output = [0u8; 4096];
-    let stepped = delivered(role, seat, holds, m, sent, got, &mut output);
+    let stepped = delivered(role, end, seat.room, holds, m, sent, got, &mut output);
     told(seat, stepped, &output, out, said)
 }
 
 fn delivered(
     role: Role,
-    seat: Seat,
+    end: End,
+    room: Room,
     holds: bool,
     m: &[u8],
     sent: &mut [u8],
@@ -148,8 +145,6 @@ fn delivered(
 ) -> Stepped
     requires { (length sent.old ≡ 8192) × (length got.old ≡ 8192) × (length output.old ≡ 4096) }
 {
-    let room = seat.room;
-    let end = seat.end;
     let from = place(role);
     let to = from + size(room.sent);
     let until = from + size(room.got);
@@ -174,20 +169,18 @@ pub(crate) fn tick(
 ) -> Told
     ensures { result.said ≤ length out.new }
 {
-    if !seat.made {
+    let Some(end) = seat.end else {
         let said = append(out, said, b"none");
         return Told { seat, said };
-    }
+    };
     let mut output = [0u8; 4096];
-    let stepped = ticked(role, seat, sent, got, &mut output);
+    let stepped = ticked(role, end, seat.room, sent, got, &mut output);
     told(seat, stepped, &output, out, said)
 }
 
-fn ticked(role: Role, seat: Seat, sent: &[u8], got: &[u8], output: &mut [u8]) -> Stepped
+fn ticked(role: Role, end: End, room: Room, sent: &[u8], got: &[u8], output: &mut [u8]) -> Stepped
     requires { length output.old ≡ 4096 }
 {
-    let room = seat.room;
-    let end = seat.end;
     let width = size(room.output);
     quick_tick::tick(
         end,
@@ -201,15 +194,11 @@ fn ticked(role: Role, seat: Seat, sent: &[u8], got: &[u8], output: &mut [u8]) ->
 fn told(seat: Seat, stepped: Stepped, output: &[u8], out: &mut [u8], said: usize) -> Told
     ensures { result.said ≤ length out.new }
 {
-    let answer = stepped.answer;
-    let end = stepped.end;
-    let room = seat.room;
     let seat = Seat {
-        made: true,
-        end,
-        room,
+        end: Some(stepped.end),
+        ..seat
     };
-    let said = answered(answer, output, out, said);
+    let said = answered(stepped.answer, output, out, said);
     Told { seat, said }
 }
 
@@ -222,6 +211,6 @@ fn answered(answer: StepAnswer, output: &[u8], out: &mut [u8], said: usize) -> u
             say::word(out, said, front(output, size as usize))
         }
         StepAnswer::Nothing => append(out, said, b"nothing"),
-        StepAnswer::Refused(n) => say::refused(out, said, n),
+        StepAnswer::Refused(refusal) => say::refused(out, said, refusal.number()),
     }
 }

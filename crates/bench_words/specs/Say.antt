@@ -3,8 +3,7 @@ use Rattle.std.specs.Prelude.{ℕ, zero, suc, ◌+◌, ◌/◌, ◌%◌, min, �
 use Rattle.wire_read.specs.Wire.{Bytes}
 use Rattle.wire_read.specs.Tests.{if◌then◌otherwise◌}
 use Rattle.wire_write.specs.Put.{paste}
-use Rattle.sequence_record.specs.declared.Verdict.{Verdict}
-use Rattle.sequence_record.specs.declared.Verdict.TheVariants.{Accepted, Refused}
+use Rattle.sequence_record.specs.Verdict.{Verdict, Accepted, Refused}
 use Rattle.sequence_record.specs.declared.LossLine.{LossLine}
 use Rattle.policy_choice.specs.declared.Transforms.{Transforms}
 use Rattle.policy_choice.specs.declared.Transforms.TheVariants.{One, Two}

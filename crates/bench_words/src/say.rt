@@ -1,10 +1,10 @@
 // Filling a buffer: each function puts something at a place and gives back the place behind it.
 ghost use Rattle.bench_words.specs.Say.{Said, decimal_text, number_text, hex_byte_text, hex_text, word_text, refused_text, bad_line_text, verdict_text, loss_text, transforms_text};
+ghost use Rattle.sequence_record.specs.Verdict.{verdict_told};
 
 use crate::hex::digit;
 use policy_choice::Transforms;
 use sequence_record::{LossLine, Verdict};
-use wire_read::byte;
 use wire_write::put_bytes;
 
 // Puts bytes. Those that do not fit are left out, and the buffer is full.
@@ -13,13 +13,7 @@ pub fn append(buffer: &mut [u8], at: usize, text: &[u8]) -> usize
 {
     put_bytes(buffer, at, text);
     let room = buffer.len();
-    if room <= at {
-        room
-    } else if room - at <= text.len() {
-        room
-    } else {
-        at + text.len()
-    }
+    room.min(at.saturating_add(text.len()))
 }
 
 // Puts a number in decimal.
@@ -47,10 +41,8 @@ pub fn bytes(out: &mut [u8], said: usize, bytes: &[u8]) -> usize
     ensures { Said out.old said (hex_text bytes.now) result out.new }
 {
     let mut said = append(out, said, b"");
-    let mut i = 0;
-    while i < bytes.len() {
-        said = hex_byte(out, said, byte(bytes, i));
-        i += 1;
+    for b in bytes {
+        said = hex_byte(out, said, *b);
     }
     said
 }
@@ -86,14 +78,14 @@ pub fn bad_line(out: &mut [u8], said: usize) -> usize
 }
 
 pub fn verdict(out: &mut [u8], said: usize, told: Verdict) -> usize
-    ensures { Said out.old said (verdict_text told) result out.new }
+    ensures { Said out.old said (verdict_text (verdict_told told)) result out.new }
 {
     match told {
-        Verdict::Accepted(rise) => {
+        Ok(rise) => {
             let said = append(out, said, b"accepted");
             number(out, said, rise)
         }
-        Verdict::Refused(n) => refused(out, said, n),
+        Err(refusal) => refused(out, said, refusal.number()),
     }
 }
 

@@ -1,9 +1,17 @@
 // The words of a line, which single spaces part. Spaces that are doubled, or stand at an end, make an empty word, which
 // counts as a word and which nothing reads: neither a verb nor bytes are empty.
-ghost use Rattle.std.specs.Prelude.{◌≡◌, ℕ, ◌≤◌, ◌<◌, min, length, get_or};
+ghost use Rattle.std.specs.Prelude.{◌≡◌, ℕ, ◌≤◌, ◌<◌, min, length, get_or, ◌==◌};
+ghost use Rattle.std.specs.List.{position};
 ghost use Rattle.bench_words.specs.Words.{word_count, word_of};
 
 use wire_read::{after, front};
+
+// The place of the first such byte.
+fn first(s: &[u8], b: u8) -> Option<usize>
+    ensures { result ≡ position (λ x. x == b) s.now }
+{
+    s.iter().position(|x| *x == b)
+}
 
 // The place of the first such byte from a place on; the length where there is none.
 pub fn find(s: &[u8], from: usize, b: u8) -> usize
@@ -12,29 +20,17 @@ pub fn find(s: &[u8], from: usize, b: u8) -> usize
     ensures before { (k : ℕ) → k < result → from ≤ k → get_or s.now k 0 ≡ b → ⊥ }
     ensures found { result < length s.now → get_or s.now result 0 ≡ b }
 {
-    let mut i = from;
-    while i < s.len() {
-        if s[i] == b {
-            return i;
-        }
-        i += 1;
+    match first(after(s, from), b) {
+        Some(n) => from + n,
+        None => s.len(),
     }
-    s.len()
 }
 
 // How many words a line has.
 pub fn count(line: &[u8]) -> usize
     ensures { result ≡ word_count line.now }
 {
-    let mut n = 1;
-    let mut i = 0;
-    while i < line.len() {
-        if line[i] == b' ' {
-            n += 1;
-        }
-        i += 1;
-    }
-    n
+    line.iter().filter(|b| **b == b' ').count() + 1
 }
 
 // Word k of a line, the first being 0; empty where the line has fewer.
@@ -42,10 +38,8 @@ pub fn nth(line: &[u8], k: usize) -> &[u8]
     ensures { result.now ≡ word_of line.now k }
 {
     let mut at = 0;
-    let mut passed = 0;
-    while passed < k {
+    for _ in 0..k {
         at = find(line, at, b' ') + 1;
-        passed += 1;
     }
     let rest = after(line, at);
     front(rest, find(rest, 0, b' '))

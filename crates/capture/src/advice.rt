@@ -1,10 +1,12 @@
 // What standard error says where an ordinary capture disappoints: what it is, and how to save it so that it reads. Each kind is
 // said once, and what was listed before is written first.
-use crate::{Large, State, output};
+use crate::Place;
+use crate::output::Output;
 use capture_header::{HeaderCause, Order};
 use capture_record::Listed;
+use refusal::Refusal;
 use std::rt::Runtime;
-use wire_read::{be16, be32, byte};
+use wire_read::{be16, be32};
 
 fn say(rt: &impl Runtime, text: &str) {
     let _ = rt.eprint(text);
@@ -19,9 +21,11 @@ fn begin(rt: &impl Runtime) {
 }
 
 // What the file is whose header is refused.
-pub(crate) fn header(rt: &impl Runtime, cause: HeaderCause) {
+pub(crate) fn header(rt: &impl Runtime, cause: Option<HeaderCause>) {
+    let Some(cause) = cause else {
+        return;
+    };
     match cause {
-        HeaderCause::Nothing => {}
         HeaderCause::Short => short(rt),
         HeaderCause::Pcapng => pcapng(rt),
         HeaderCause::Nanoseconds => nanoseconds(rt),
@@ -110,10 +114,10 @@ fn no_capture(rt: &impl Runtime) {
 }
 
 // The next record is too long to be read.
-pub(crate) fn long_record(rt: &impl Runtime, order: Order, s: &[u8], state: State) {
-    begin_record(rt, state);
+pub(crate) fn long_record(rt: &impl Runtime, order: Order, s: &[u8], here: Place) {
+    begin_record(rt, here);
     say(rt, " has ");
-    say_number(rt, captured(order, s));
+    say_number(rt, captured(order, s) as u64);
     say(
         rt,
         " bytes, over the 65,535 that are read; offloading joins packets to such records: turn it off before recording, ",
@@ -124,84 +128,121 @@ pub(crate) fn long_record(rt: &impl Runtime, order: Order, s: &[u8], state: Stat
     );
 }
 
-fn begin_record(rt: &impl Runtime, state: State) {
+fn begin_record(rt: &impl Runtime, here: Place) {
     begin(rt);
     say(rt, "record ");
-    say_number(rt, state.number);
+    say_number(rt, here.number);
     say(rt, " at ");
-    say_number(rt, state.place);
+    say_number(rt, here.at);
 }
 
-// The captured length in a record's header.
-fn captured(order: Order, s: &[u8]) -> u64 {
+// The captured length in a record's header. capture_header reads it too, but tells it of no record that is too long.
+fn captured(order: Order, s: &[u8]) -> u32 {
     match order {
-        Order::Big => be32(s, 8) as u64,
-        Order::Little => {
-            byte(s, 8) as u64
-                + byte(s, 9) as u64 * 256
-                + byte(s, 10) as u64 * 65536
-                + byte(s, 11) as u64 * 16777216
+        Order::Big => be32(s, 8),
+        Order::Little => be32(s, 8).swap_bytes(),
+    }
+}
+
+// What was said once: that a snap length cut a record short, that the table is full, that a frame is PPPoE.
+#[derive(Drop)]
+pub(crate) struct Advice {
+    pub(crate) snap: bool,
+    pub(crate) full: bool,
+    pub(crate) pppoe: bool,
+}
+
+impl Advice {
+    // What is said of a record that is listed.
+    pub(crate) fn record(
+        &mut self,
+        rt: &impl Runtime,
+        output: &mut Output,
+        here: Place,
+        original: u32,
+        s: &[u8],
+        listed: Listed,
+        refusal: Option<Refusal>,
+    ) {
+        match listed {
+            Listed::CutShort => self.snap(rt, output, here, original, s.len()),
+            Listed::NotIpv4 => self.pppoe(rt, output, here, s),
+            _ => self.full(rt, output, here, refusal),
         }
     }
+
+    fn snap(
+        &mut self,
+        rt: &impl Runtime,
+        output: &mut Output,
+        here: Place,
+        original: u32,
+        size: usize,
+    ) {
+        if self.snap | (original as usize <= size) {
+            return;
+        }
+        output.flush(rt);
+        if output.left {
+            return;
+        }
+        begin_record(rt, here);
+        say(rt, " has ");
+        say_number(rt, size as u64);
+        say(rt, " of its ");
+        say_number(rt, original as u64);
+        say(
+            rt,
+            " bytes: a snap length cut it short; record with -s 0, as with tcpdump -i eth0 -s 0 -w NEW\n",
+        );
+        self.snap = true;
+    }
+
+    fn pppoe(&mut self, rt: &impl Runtime, output: &mut Output, here: Place, s: &[u8]) {
+        if self.pppoe | (behind_tags(s) != 0x8864) {
+            return;
+        }
+        output.flush(rt);
+        if output.left {
+            return;
+        }
+        begin_record(rt, here);
+        say(
+            rt,
+            " is PPPoE, a dialled line's own frame around the IP packet; such records are listed as not IPv4: ",
+        );
+        say(rt, "record on the other side of what dials\n");
+        self.pppoe = true;
+    }
+
+    fn full(
+        &mut self,
+        rt: &impl Runtime,
+        output: &mut Output,
+        here: Place,
+        refusal: Option<Refusal>,
+    ) {
+        if self.full | (refusal != Some(Refusal::TableFull)) {
+            return;
+        }
+        output.flush(rt);
+        if output.left {
+            return;
+        }
+        begin_record(rt, here);
+        say(
+            rt,
+            " is of an SA too many: the table holds 64 SAs, and packets of any more are refused with 8199; ",
+        );
+        say(
+            rt,
+            "take one peer's packets, as with tcpdump -r FILE -w NEW host ADDRESS\n",
+        );
+        self.full = true;
+    }
 }
 
-// What is said of a record that is listed.
-pub(crate) fn record(
-    rt: &impl Runtime,
-    out: &Large,
-    original: u32,
-    s: &[u8],
-    listed: Listed,
-    refusal: u16,
-    state: State,
-) -> State {
-    match listed {
-        Listed::CutShort => snap(rt, out, original, s.len(), state),
-        Listed::NotIpv4 => pppoe(rt, out, s, state),
-        _ => full(rt, out, refusal, state),
-    }
-}
-
-fn snap(rt: &impl Runtime, out: &Large, original: u32, size: usize, state: State) -> State {
-    if state.snap | (original as usize <= size) {
-        return state;
-    }
-    let mut state = output::flush(rt, out, state);
-    if state.left {
-        return state;
-    }
-    begin_record(rt, state);
-    say(rt, " has ");
-    say_number(rt, size as u64);
-    say(rt, " of its ");
-    say_number(rt, original as u64);
-    say(
-        rt,
-        " bytes: a snap length cut it short; record with -s 0, as with tcpdump -i eth0 -s 0 -w NEW\n",
-    );
-    state.snap = true;
-    state
-}
-
-fn pppoe(rt: &impl Runtime, out: &Large, s: &[u8], state: State) -> State {
-    if state.pppoe | (behind_tags(s) != 0x8864) {
-        return state;
-    }
-    let mut state = output::flush(rt, out, state);
-    if state.left {
-        return state;
-    }
-    begin_record(rt, state);
-    say(
-        rt,
-        " is PPPoE, a dialled line's own frame around the IP packet; such records are listed as not IPv4: ",
-    );
-    say(rt, "record on the other side of what dials\n");
-    state.pppoe = true;
-    state
-}
-
-// The EtherType behind at most two VLAN tags.
+// The EtherType behind at most two VLAN tags. capture_frame goes by it too, but gives it to nobody.
 fn behind_tags(s: &[u8]) -> u16 {
     let first = be16(s, 12);
     if !is_tag(first) {
@@ -216,25 +257,4 @@ fn behind_tags(s: &[u8]) -> u16 {
 
 fn is_tag(ether_type: u16) -> bool {
     (ether_type == 0x8100) | (ether_type == 0x88a8)
-}
-
-fn full(rt: &impl Runtime, out: &Large, refusal: u16, state: State) -> State {
-    if state.full | (refusal != 8199) {
-        return state;
-    }
-    let mut state = output::flush(rt, out, state);
-    if state.left {
-        return state;
-    }
-    begin_record(rt, state);
-    say(
-        rt,
-        " is of an SA too many: the table holds 64 SAs, and packets of any more are refused with 8199; ",
-    );
-    say(
-        rt,
-        "take one peer's packets, as with tcpdump -r FILE -w NEW host ADDRESS\n",
-    );
-    state.full = true;
-    state
 }

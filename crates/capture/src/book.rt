@@ -1,5 +1,6 @@
 // The policy book that the first argument names.
-use policy_book::Book;
+use policy_book::read_book;
+use refusal::Refusal;
 use std::fs::File;
 use std::io::Read;
 use std::rt::Runtime;
@@ -11,33 +12,30 @@ const ROOM: u64 = 83;
 // The longest path.
 const LONGEST_PATH: usize = 4096;
 
-#[derive(Clone, Copy)]
-pub(crate) enum Given {
-    Nothing,
-    Lawful,
-    Refused(u16),
+// Why a book that was named is of no use.
+pub(crate) enum Unusable {
+    Refused(Refusal),
     Unread,
 }
 
-// Puts the bytes of the book into what is lent.
-pub(crate) fn read<R: Runtime>(rt: &R, book: &mut Vec<u8, R::A>) -> Given {
+// Puts the bytes of the book into what is lent; none where none is named.
+pub(crate) fn read<R: Runtime>(rt: &R, book: &mut Vec<u8, R::A>) -> Result<(), Unusable> {
     let mut path = [0u8; LONGEST_PATH];
     let length = rt.arg(1, &mut path).unwrap_or(0);
     if length == 0 {
-        return Given::Nothing;
+        return Ok(());
     }
     let Ok(path) = str::from_utf8(front(&path, length)) else {
-        return Given::Unread;
+        return Err(Unusable::Unread);
     };
     let Ok(file) = File::open(rt, path) else {
-        return Given::Unread;
+        return Err(Unusable::Unread);
     };
     if file.take(ROOM).read_to_end(book).is_err() {
-        return Given::Unread;
+        return Err(Unusable::Unread);
     }
-    let read = policy_book::read_book(book);
-    match read {
-        Book::Refused(number) => Given::Refused(number),
-        Book::Lawful { main: _, quick: _ } => Given::Lawful,
+    match read_book(book) {
+        Err(refusal) => Err(Unusable::Refused(refusal)),
+        Ok(_) => Ok(()),
     }
 }

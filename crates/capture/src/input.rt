@@ -1,68 +1,65 @@
 // Standard input, through one buffer: what is held of it, and reading only where that is too little.
-use crate::{Large, State, output, told};
-use capture_buffer::{grow, held_in, settle};
+use crate::output::Output;
+use crate::{Large, told};
+use capture_buffer::Held;
 use std::io;
 use std::io::Read;
 use std::rt::Runtime;
 
-// Holds so many bytes, or all that are left where the input ends before that.
-pub(crate) fn hold(
-    rt: &impl Runtime,
-    input: &mut Large,
-    out: &[u8],
-    n: usize,
-    mut state: State,
-) -> State {
-    // Every read but the last gives a byte at least.
-    for _ in 0..n {
-        if !wanting(input, n, state) {
-            break;
-        }
-        state = refill(rt, input, out, state);
-    }
-    state
+// What is held of the input, and whether that has ended.
+#[derive(Drop)]
+pub(crate) struct Input {
+    pub(crate) buffer: Large,
+    pub(crate) held: Held,
+    pub(crate) ended: bool,
 }
 
-fn wanting(input: &[u8], n: usize, state: State) -> bool {
-    let held = state.held;
-    state.going & !state.ended & (held_in(input, held).len() < n)
-}
-
-// Reads once. What was said is written before, so that who reads a live capture along sees every record that came.
-fn refill(rt: &impl Runtime, input: &mut Large, out: &[u8], state: State) -> State {
-    let mut state = output::flush(rt, out, state);
-    if !state.going {
-        return state;
+impl Input {
+    pub(crate) fn bytes(&self) -> &[u8] {
+        self.held.held_in(&self.buffer)
     }
-    let before = state.held;
-    let held = settle(input, before);
-    let mut count = 0;
-    match read_behind(rt, input, held.to) {
-        Ok(got) => count = got,
-        Err(_) => {
-            told::failed(rt, "cannot read the capture to its end");
-            state.going = false;
+
+    // Holds so many bytes, or all that are left where the input ends before that.
+    pub(crate) fn hold(&mut self, rt: &impl Runtime, output: &mut Output, n: usize) {
+        // Every read but the last gives a byte at least.
+        for _ in 0..n {
+            if !output.going | self.ended | (n <= self.bytes().len()) {
+                break;
+            }
+            self.refill(rt, output);
         }
     }
-    if count == 0 {
-        state.ended = true;
+
+    // Reads once. What was said is written before, so that who reads a live capture along sees every record that came.
+    fn refill(&mut self, rt: &impl Runtime, output: &mut Output) {
+        output.flush(rt);
+        if !output.going {
+            return;
+        }
+        let held = self.held.settle(&mut self.buffer);
+        let mut count = 0;
+        match read_behind(rt, &mut self.buffer, held.to) {
+            Ok(got) => count = got,
+            Err(_) => {
+                told::failed(rt, "cannot read the capture to its end");
+                output.going = false;
+            }
+        }
+        if count == 0 {
+            self.ended = true;
+        }
+        self.held = held.grow(&self.buffer, count);
     }
-    let held = grow(input, held, count);
-    state.held = held;
-    state
+
+    // Takes so many of the bytes that are held.
+    pub(crate) fn take(&mut self, n: usize) {
+        self.held = self.held.take(n);
+    }
 }
 
-fn read_behind(rt: &impl Runtime, input: &mut [u8], to: usize) -> io::Result<usize> {
-    if input.len() <= to {
+fn read_behind(rt: &impl Runtime, buffer: &mut [u8], to: usize) -> io::Result<usize> {
+    if buffer.len() <= to {
         return Ok(0);
     }
-    rt.reader().read(&mut input[to..])
-}
-
-// Takes so many of the bytes that are held.
-pub(crate) fn take(n: usize, mut state: State) -> State {
-    let before = state.held;
-    let held = capture_buffer::take(before, n);
-    state.held = held;
-    state
+    rt.reader().read(&mut buffer[to..])
 }

@@ -1,22 +1,44 @@
 // How far a long file is listed, for who waits at a terminal.
-use crate::State;
 use std::fs;
 use std::rt::Runtime;
 
 const LONG: u64 = 50000000;
 
-// The length of standard input where progress is told: on a terminal, of a file over 50 MB that is read from its front. Else 0.
-pub(crate) fn size_to_tell(rt: &impl Runtime, terminal: bool) -> u64 {
+// How long the file is, where progress is told, and at which byte of it a word is due next.
+#[derive(Drop)]
+pub(crate) struct Progress {
+    size: u64,
+    due: u64,
+}
+
+pub(crate) fn begun(rt: &impl Runtime, terminal: bool) -> Progress {
+    match size_to_tell(rt, terminal) {
+        Some(size) => Progress {
+            size,
+            due: size / 10 + 1,
+        },
+        // Nothing is told.
+        None => Progress {
+            size: 0,
+            due: u64::MAX,
+        },
+    }
+}
+
+// The length of standard input where progress is told: on a terminal, of a file over 50 MB that is read from its front.
+fn size_to_tell(rt: &impl Runtime, terminal: bool) -> Option<u64> {
     if !terminal {
-        return 0;
+        return None;
     }
     if !at_front(rt) {
-        return 0;
+        return None;
     }
-    let Ok(file) = fs::metadata(rt, "/dev/stdin") else {
-        return 0;
-    };
-    if LONG < file.len() { file.len() } else { 0 }
+    let file = fs::metadata(rt, "/dev/stdin").ok()?;
+    if LONG < file.len() {
+        Some(file.len())
+    } else {
+        None
+    }
 }
 
 // Whether nothing of standard input is read yet; no where the system does not say.
@@ -27,21 +49,17 @@ fn at_front(rt: &impl Runtime) -> bool {
     text.as_bytes().starts_with(b"pos:\t0\n")
 }
 
-// Where the first word is due; nowhere where none is.
-pub(crate) fn first(size: u64) -> u64 {
-    if size == 0 { u64::MAX } else { size / 10 + 1 }
-}
-
-// Says how far the listing is, a line at each tenth; nothing once its reader has left.
-pub(crate) fn tell(rt: &impl Runtime, mut state: State) -> State {
-    if state.left | (state.place < state.due) {
-        return state;
+impl Progress {
+    // Says how far the listing is, a line at each tenth.
+    pub(crate) fn tell(&mut self, rt: &impl Runtime, at: u64) {
+        if at < self.due {
+            return;
+        }
+        let tenth = self.size / 10 + 1;
+        // The remainder changes nothing up to the tenth tenth; it shows the prover that the product fits.
+        let tenths = at / tenth % 16;
+        let megabytes = self.size / 1000000;
+        let _ = eprintln!(rt; "./capture: {} % of {megabytes} MB", tenths * 10);
+        self.due = self.due.wrapping_add(tenth);
     }
-    let tenth = state.size / 10 + 1;
-    // The remainder changes nothing up to the tenth tenth; it shows the prover that the product fits.
-    let tenths = state.place / tenth % 16;
-    let megabytes = state.size / 1000000;
-    let _ = eprintln!(rt; "./capture: {} % of {megabytes} MB", tenths * 10);
-    state.due = state.due.wrapping_add(tenth);
-    state
 }

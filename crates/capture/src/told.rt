@@ -29,14 +29,6 @@ pub(crate) fn failed(rt: &impl Runtime, sentence: &str) {
     tell(rt, format_args!("failed {sentence}"));
 }
 
-// Notes that the listing has a number. 0 is no refusal.
-pub(crate) fn occurs(occurred: &mut Occurred, number: u16) {
-    let at = number as usize;
-    if at < occurred.len() {
-        occurred[at] = true;
-    }
-}
-
 pub(crate) fn refusals(rt: &impl Runtime, occurred: &Occurred) {
     for n in 1..occurred.len() {
         if occurred[n] {

@@ -17,7 +17,7 @@ use Rattle.capture_buffer.specs.declared.Held.{Held}
 
 -- ---- one step
 
-drop-most : (k m : ℕ) (s : List ℕ) → length s ≤ m → drop (min k m) s ≡ drop k s
+pub drop-most : (k m : ℕ) (s : List ℕ) → length s ≤ m → drop (min k m) s ≡ drop k s
 drop-most k m s short =
     by_test (leb k m)
     (λ e. let least : min k m ≡ k = omega (arith, leb-true k m e) in ap (λ (i : ℕ). drop i s) least)

@@ -1,72 +1,65 @@
--- A law for each way out of this crate's functions, and for each turn of their loop.
-use Prim.Native.Nat.{ℕ, ◌+◌, ◌-◌, ◌≤◌, ◌<◌}
+-- A law for each way out of this crate's functions.
+use Prim.Native.Nat.{ℕ, min, ◌+◌, ◌-◌, ◌≤◌, ◌<◌}
 use mathlib.Core.Path.{◌≡◌, sym, ap, ◌∙◌}
-use mathlib.Core.List.{List, []}
+use mathlib.Core.List.{List, ◌++◌}
 use native.Mathlib.Omega.{arith}
-use lib.ListN.{length, get_or, take, drop, set, length-take, length-drop, drop_of_length-le}
-use lib.Seq.{get_or-take, take-set-lt, drop-set-lt}
-use Rattle.wire_read.proofs.Laws.{part-next, take_within}
+use lib.ListN.{length, take, drop, length-take, length-drop}
+use lib.Seq.{take_all}
+use lib.Dec.{leb}
+use borrow.Author.Tests.{leb-true, leb-false}
+use Rattle.std.specs.List.{copy_within}
+use Rattle.std.proofs.lemmas.Slice.{between_is}
+use Rattle.wire_read.proofs.Tests.{by_test}
 use Rattle.wire_write.specs.Put.{paste}
+use Rattle.wire_write.proofs.Laws.{paste-fits}
 use Rattle.capture_buffer.specs.Buffer.{held_in, taken, grown, settled}
 use Rattle.capture_buffer.specs.declared.Held.{Held}
+use Rattle.capture_buffer.proofs.Laws.{drop-most}
 
 pub held-part : (buffer t r : List ℕ) (held : Held) → t ≡ take held.to buffer → r ≡ drop held.from t → r ≡ held_in buffer held
 held-part buffer t r held et er = rw et at er
 
-module _ (held : Held) (n : ℕ) where
-  pub taken_none : held.to ≤ held.from → record { from = held.to; to = held.to } ≡ taken held n
-  unfolding taken
-  taken_none h = ap (λ (k : ℕ). record { from = k; to = held.to }) (omega arith)
+pub taken-from : (held : Held) (n k : ℕ) → k ≡ min (held.from + n) held.to → record { from = k; to = held.to } ≡ taken held n
+unfolding taken
+taken-from held n k e = ap (λ (i : ℕ). record { from = i; to = held.to }) e
 
-  module _ (some : held.from < held.to) where
-    pub taken-all : held.to - held.from ≤ n → record { from = held.to; to = held.to } ≡ taken held n
-    unfolding taken
-    taken-all h = ap (λ (k : ℕ). record { from = k; to = held.to }) (omega arith)
+pub grown-to : (buffer : List ℕ) (held : Held) (got k : ℕ) → k ≡ min (held.to + got) (length buffer) →
+    record { from = held.from; to = k } ≡ grown buffer held got
+unfolding grown
+grown-to buffer held got k e = ap (λ (i : ℕ). record { from = held.from; to = i }) e
 
-    pub taken-part : n < held.to - held.from → record { from = held.from + n; to = held.to } ≡ taken held n
-    unfolding taken
-    taken-part h = ap (λ (k : ℕ). record { from = k; to = held.to }) (omega arith)
+-- ---- moving: what lies from `from` to `end`
 
-module _ (buffer : List ℕ) (held : Held) (got : ℕ) where
-  pub grown-none : length buffer ≤ held.to → record { from = held.from; to = length buffer } ≡ grown buffer held got
-  unfolding grown
-  grown-none h = ap (λ (k : ℕ). record { from = held.from; to = k }) (omega arith)
+take-most : (k : ℕ) (s : List ℕ) → take (min k (length s)) s ≡ take k s
+take-most k s =
+    by_test (leb k (length s))
+    (λ e. let least : min k (length s) ≡ k = omega (arith, leb-true k (length s) e) in ap (λ (i : ℕ). take i s) least)
+    (λ e.
+    let past : length s < k = leb-false k (length s) e in
+    let least : min k (length s) ≡ length s = omega arith in
+    let all : take (length s) s ≡ s = take_all (length s) s (omega arith) in
+    let more : take k s ≡ s = take_all k s (omega arith) in
+    ap (λ (i : ℕ). take i s) least ∙ all ∙ sym more)
 
-  module _ (room : held.to < length buffer) where
-    pub grown-full : length buffer - held.to ≤ got → record { from = held.from; to = length buffer } ≡ grown buffer held got
-    unfolding grown
-    grown-full h = ap (λ (k : ℕ). record { from = held.from; to = k }) (omega arith)
+module _ (buffer : List ℕ) (held : Held) (from end : ℕ) (ends : end ≡ min held.to (length buffer)) (begins : from ≡ min held.from end) where
+  moved : take (end - from) (drop from buffer) ≡ held_in buffer held
+  moved =
+      let cut : take end buffer ≡ take held.to buffer = ap (λ (i : ℕ). take i buffer) ends ∙ take-most held.to buffer in
+      let size : length (take held.to buffer) ≤ end = omega (arith, length-take held.to buffer) in
+      between_is buffer from end
+      ∙ ap (drop from) cut
+      ∙ ap (λ (i : ℕ). drop i (take held.to buffer)) begins
+      ∙ drop-most held.from end (take held.to buffer) size
 
-    pub grown-part : got < length buffer - held.to → record { from = held.from; to = held.to + got } ≡ grown buffer held got
-    unfolding grown
-    grown-part h = ap (λ (k : ℕ). record { from = held.from; to = k }) (omega arith)
-
--- ---- the loop
-
-pub end-within : (buffer t : List ℕ) (n : ℕ) → t ≡ take n buffer → length t ≤ length buffer
-end-within buffer t n e = rw e (take_within n buffer)
-
--- moved is the buffer so far, i the place of the next byte and next where it stands: what is left lies where it lay, since i is not past next
-module _ (buffer moved : List ℕ) (held : Held) (end i next : ℕ)
-    (so_far : paste moved i (drop next (take held.to moved)) ≡ paste buffer 0 (held_in buffer held))
-    (size : length moved ≡ length buffer) (ends : end ≡ length (take held.to buffer)) (behind : next ≡ held.from + i) where
-  pub settled_on : next < end →
-      paste (set moved i (get_or moved next 0)) (i + 1) (drop (next + 1) (take held.to (set moved i (get_or moved next 0))))
-      ≡ paste buffer 0 (held_in buffer held)
-  unfolding paste
-  settled_on more =
-      let before : next < held.to = omega (arith, length-take held.to buffer) in
-      let inside : next < length (take held.to moved) = omega (arith, length-take held.to moved, length-take held.to buffer) in
-      let first = part-next (take held.to moved) next inside in
-      let byte = get_or-take held.to moved next 0 before in
-      rw (take-set-lt held.to moved i (get_or moved next 0) (omega arith), drop-set-lt (next + 1) (take held.to moved) i (get_or moved next 0) (omega arith))
-      (sym (ap (λ (b : ℕ). paste (set moved i b) (i + 1) (drop (next + 1) (take held.to moved))) byte) ∙ sym (ap (paste moved i) first) ∙ so_far)
-
-  pub settled-end : end ≤ next → i ≤ end - held.from → settled buffer held ≡ (record { from = 0; to = i }, moved)
-  unfolding settled paste
-  settled-end done inside =
-      let none : drop next (take held.to moved) ≡ [] =
-      drop_of_length-le (take held.to moved) {i = next} (omega (arith, length-take held.to moved, length-take held.to buffer)) in
-      let all : length (held_in buffer held) ≡ i = omega (arith, length-drop held.from (take held.to buffer)) in
-      let as_moved : moved ≡ paste buffer 0 (held_in buffer held) = rw none at so_far in
-      rw (all, ← as_moved)
+  pub settled-by : (after : List ℕ) → after ≡ copy_within buffer from end 0 → settled buffer held ≡ (record { from = 0; to = end - from }, after)
+  unfolding settled
+  settled-by after copied =
+      let size : length (held_in buffer held) ≡ end - from =
+      omega (arith, length-drop held.from (take held.to buffer), length-take held.to buffer) in
+      let behind : 0 + length (held_in buffer held) ≡ 0 + (end - from) = omega arith in
+      let written : paste buffer 0 (held_in buffer held) ≡ after =
+      paste-fits buffer 0 (held_in buffer held) (omega (arith, size))
+      ∙ ap (λ (n : ℕ). held_in buffer held ++ drop n buffer) behind
+      ∙ ap (λ (s : List ℕ). s ++ drop (0 + (end - from)) buffer) (sym moved)
+      ∙ sym copied in
+      rw (size, written)

@@ -7,61 +7,50 @@ ghost use Rattle.capture_buffer.specs.Buffer.{held_in, taken, grown, settled};
 use wire_read::{after, front};
 
 // Where what was read and is not yet taken lies in the buffer.
-#[derive(Clone, Copy)]
+#[derive(Clone, Copy, Debug, PartialEq, Eq)]
 pub struct Held {
     pub from: usize,
     pub to: usize,
 }
 
-// The bytes that are held.
-pub fn held_in(buffer: &[u8], held: Held) -> &[u8]
-    ensures { result.now ≡ held_in buffer.now held }
-{
-    after(front(buffer, held.to), held.from)
-}
+impl Held {
+    // The bytes that are held.
+    pub fn held_in(self, buffer: &[u8]) -> &[u8]
+        ensures { result.now ≡ held_in buffer.now self }
+    {
+        after(front(buffer, self.to), self.from)
+    }
 
-// Takes the first n of them, all where there are fewer.
-pub fn take(held: Held, n: usize) -> Held
-    ensures { result ≡ taken held n }
-{
-    let from = held.from;
-    let to = held.to;
-    if from < to {
-        if n < to - from {
-            return Held { from: from + n, to };
+    // Takes the first n of them, all where there are fewer.
+    pub fn take(self, n: usize) -> Held
+        ensures { result ≡ taken self n }
+    {
+        Held {
+            from: self.from.saturating_add(n).min(self.to),
+            to: self.to,
         }
     }
-    Held { from: to, to }
-}
 
-// Holds so many more, which a read put right behind them.
-pub fn grow(buffer: &[u8], held: Held, got: usize) -> Held
-    ensures { result ≡ grown buffer.now held got }
-{
-    let from = held.from;
-    let to = held.to;
-    let room = buffer.len();
-    if to < room {
-        if got < room - to {
-            return Held { from, to: to + got };
+    // Holds so many more, which a read put right behind them.
+    pub fn grow(self, buffer: &[u8], got: usize) -> Held
+        ensures { result ≡ grown buffer.now self got }
+    {
+        Held {
+            from: self.from,
+            to: self.to.saturating_add(got).min(buffer.len()),
         }
     }
-    Held { from, to: room }
-}
 
-// Moves them to the buffer's front.
-pub fn settle(buffer: &mut [u8], held: Held) -> Held
-    ensures { settled buffer.old held ≡ (result, buffer.new) }
-{
-    let from = held.from;
-    let to = held.to;
-    let end = front(buffer, to).len();
-    let mut i = 0;
-    let mut next = from;
-    while next < end {
-        buffer[i] = buffer[next];
-        i += 1;
-        next += 1;
+    // Moves them to the buffer's front.
+    pub fn settle(self, buffer: &mut [u8]) -> Held
+        ensures { settled buffer.old self ≡ (result, buffer.new) }
+    {
+        let end = self.to.min(buffer.len());
+        let from = self.from.min(end);
+        buffer.copy_within(from..end, 0);
+        Held {
+            from: 0,
+            to: end - from,
+        }
     }
-    Held { from: 0, to: i }
 }

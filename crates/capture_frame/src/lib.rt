@@ -10,26 +10,26 @@ ghost use Rattle.capture_frame.specs.Frame.{deciding_port, by_port, udp, by_prot
 
 use wire_read::{be16, be32, byte};
 
-#[derive(Clone, Copy)]
+#[derive(Clone, Copy, Debug, PartialEq, Eq)]
 pub struct Addresses {
     pub source: u32,
     pub destination: u32,
 }
 
-#[derive(Clone, Copy)]
+#[derive(Clone, Copy, Debug, PartialEq, Eq)]
 pub struct Ports {
     pub source: u16,
     pub destination: u16,
 }
 
 // Where something lies in the record.
-#[derive(Clone, Copy)]
+#[derive(Clone, Copy, Debug, PartialEq, Eq)]
 pub struct Part {
     pub start: usize,
     pub length: usize,
 }
 
-#[derive(Clone, Copy)]
+#[derive(Clone, Copy, Debug, PartialEq, Eq)]
 pub enum Frame {
     CutShort,
     NotIpv4,

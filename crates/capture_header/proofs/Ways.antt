@@ -1,10 +1,12 @@
 -- A law for each way out of this crate's functions: what the definitions say under the tests that the code makes.
+use Rattle.std.specs.Prelude.{Option, None, Some}
+use Rattle.std.specs.Int.{swap_bytes, w16, w32}
 use Prim.Native.Nat.{ℕ, ◌+◌, ◌*◌, ◌%◌, ◌≤◌, ◌<◌}
-use mathlib.Core.Path.{◌≡◌}
+use mathlib.Core.Path.{◌≡◌, ◌∙◌}
 use mathlib.Core.List.{List}
 use mathlib.Core.Bool.{true, false, not, ◌||◌, ◌&&◌}
 use native.Mathlib.Omega.{arith}
-use native.Mathlib.Nat.{add_assoc}
+use native.Mathlib.Nat.{add-zero, add_assoc}
 use lib.ListN.{length, get_or}
 use lib.Dec.{eqb}
 use borrow.Author.Tests.{lt-ltb, le-ltb, eq-eqb, ne_eqb}
@@ -13,9 +15,9 @@ use Rattle.capture_header.specs.Headers.{lowest_first, number_in, magic, major_i
 use Rattle.capture_header.specs.Headers.{seconds_in, microseconds_in, captured_in, original_in, record_header, nanoseconds, pcapng, order_cause, header_cause}
 use Rattle.capture_header.specs.declared.Order.{Order}
 use Rattle.capture_header.specs.declared.Order.TheVariants.{Big, Little}
-use Rattle.capture_header.specs.declared.FileHeader.{FileHeader}
-use Rattle.capture_header.specs.declared.FileHeader.TheVariants as Files
-use Rattle.capture_header.specs.declared.RecordHeader.TheVariants as Records
+use Rattle.capture_header.specs.FileHeader.{FileHeader}
+use Rattle.capture_header.specs.FileHeader as Files
+use Rattle.capture_header.specs.RecordHeader as Records
 use Rattle.capture_header.specs.declared.HeaderCause.{HeaderCause}
 use Rattle.capture_header.specs.declared.HeaderCause.TheVariants as Causes
 
@@ -26,14 +28,20 @@ module _ (order : Order) (s : List ℕ) (i a : ℕ) where
   unfolding number_in
   highest-first n e h = rw e h
 
-  module _ (e : order ≡ Little) (b : ℕ) (ea : a ≡ get_or s i 0) (eb : b ≡ get_or s (i + 1) 0) where
-    pub two-lowest-first : a + b * 256 ≡ number_in order 2 s i
-    unfolding number_in lowest_first
-    two-lowest-first = rw e (omega arith)
+  -- a is what the bytes spell the highest first
+  module _ (e : order ≡ Little) (fits : (k : ℕ) → get_or s k 0 < 256) (r : ℕ) where
+    pub two-lowest-first : a ≡ number_at 2 s i → r ≡ swap_bytes w16 a → r ≡ number_in order 2 s i
+    unfolding number_in lowest_first number_at
+    two-lowest-first ea er =
+        let spelled : a ≡ get_or s i 0 * 256 + get_or s (i + 1) 0 = ea ∙ rw add-zero (omega arith) in
+        rw e (omega (arith, er, spelled, fits i, fits (i + 1)))
 
-    pub four_lowest-first : (c d : ℕ) → c ≡ get_or s (i + 2) 0 → d ≡ get_or s (i + 3) 0 → a + b * 256 + c * 65536 + d * 16777216 ≡ number_in order 4 s i
-    unfolding number_in lowest_first
-    four_lowest-first c d ec ed = rw (e, add_assoc i 1 1, add_assoc i 2 1) (omega arith)
+    pub four_lowest-first : a ≡ number_at 4 s i → r ≡ swap_bytes w32 a → r ≡ number_in order 4 s i
+    unfolding number_in lowest_first number_at
+    four_lowest-first ea er =
+        let spelled : a ≡ get_or s i 0 * 16777216 + get_or s (i + 1) 0 * 65536 + get_or s (i + 2) 0 * 256 + get_or s (i + 3) 0 =
+        ea ∙ rw add-zero (omega arith) in
+        rw (e, add_assoc i 1 1, add_assoc i 2 1) (omega (arith, er, spelled, fits i, fits (i + 1), fits (i + 2), fits (i + 3)))
 
 -- ---- the file's header
 
@@ -47,21 +55,21 @@ module _ (order : Order) (s : List ℕ) (major minor link : ℕ) (e₁ : major �
   in_order_refused h = rw (← e₁, ← e₂, ← e₃, h)
 
   -- what it is instead
-  pub cause_version : not (eqb major 2 && eqb minor 4) ≡ true → Causes.Version major minor ≡ order_cause order s
+  pub cause_version : not (eqb major 2 && eqb minor 4) ≡ true → Some (Causes.Version major minor) ≡ order_cause order s
   unfolding order_cause
   cause_version h = rw (← e₁, ← e₂, h)
 
   module _ (h : not (eqb major 2 && eqb minor 4) ≡ false) where
-    pub cause_nothing : link ≡ 1 → Causes.Nothing ≡ order_cause order s
+    pub cause_nothing : link ≡ 1 → None ≡ order_cause order s
     unfolding order_cause
     cause_nothing e = rw (← e₁, ← e₂, h, ← e₃, eq-eqb link 1 e)
 
     module _ (other : link ≡ 1 → ⊥) where
-      pub cause_check_sequences : link % 65536 ≡ 1 → Causes.CheckSequences ≡ order_cause order s
+      pub cause_check_sequences : link % 65536 ≡ 1 → Some Causes.CheckSequences ≡ order_cause order s
       unfolding order_cause
       cause_check_sequences e = rw (← e₁, ← e₂, h, ← e₃, ne_eqb link 1 other, eq-eqb (link % 65536) 1 e)
 
-      pub cause_link_type : (link % 65536 ≡ 1 → ⊥) → Causes.LinkType (link % 65536) ≡ order_cause order s
+      pub cause_link_type : (link % 65536 ≡ 1 → ⊥) → Some (Causes.LinkType (link % 65536)) ≡ order_cause order s
       unfolding order_cause
       cause_link_type e = rw (← e₁, ← e₂, h, ← e₃, ne_eqb link 1 other, ne_eqb (link % 65536) 1 e)
 
@@ -70,7 +78,7 @@ module _ (s : List ℕ) where
   unfolding file_header
   file_short h = rw (lt-ltb (length s) 24 h)
 
-  pub cause_short : length s < 24 → Causes.Short ≡ header_cause s
+  pub cause_short : length s < 24 → Some Causes.Short ≡ header_cause s
   unfolding header_cause
   cause_short h = rw (lt-ltb (length s) 24 h)
 
@@ -89,16 +97,16 @@ module _ (s : List ℕ) where
         unfolding file_header
         file_other e = rw (le-ltb (length s) 24 long, ← eb, ne_eqb big magic other, ← el, ne_eqb little magic e)
 
-      pub cause_pcapng : big ≡ pcapng → Causes.Pcapng ≡ header_cause s
+      pub cause_pcapng : big ≡ pcapng → Some Causes.Pcapng ≡ header_cause s
       unfolding header_cause
       cause_pcapng e = rw (le-ltb (length s) 24 long, ← eb, eq-eqb big pcapng e)
 
       module _ (other : big ≡ pcapng → ⊥) where
-        pub cause_nanoseconds : (eqb big nanoseconds || eqb little nanoseconds) ≡ true → Causes.Nanoseconds ≡ header_cause s
+        pub cause_nanoseconds : (eqb big nanoseconds || eqb little nanoseconds) ≡ true → Some Causes.Nanoseconds ≡ header_cause s
         unfolding header_cause
         cause_nanoseconds e = rw (le-ltb (length s) 24 long, ← eb, ← el, ne_eqb big pcapng other, e)
 
-        module _ (micro : (eqb big nanoseconds || eqb little nanoseconds) ≡ false) (r : HeaderCause) where
+        module _ (micro : (eqb big nanoseconds || eqb little nanoseconds) ≡ false) (r : Option HeaderCause) where
           pub cause_big : big ≡ magic → r ≡ order_cause Big s → r ≡ header_cause s
           unfolding header_cause
           cause_big e er = rw (le-ltb (length s) 24 long, ← eb, ← el, ne_eqb big pcapng other, micro, eq-eqb big magic e) er
@@ -108,7 +116,7 @@ module _ (s : List ℕ) where
           cause_little h e er = rw (le-ltb (length s) 24 long, ← eb, ← el, ne_eqb big pcapng other, micro, ne_eqb big magic h, eq-eqb little magic e) er
 
         pub cause_none : (eqb big nanoseconds || eqb little nanoseconds) ≡ false → (big ≡ magic → ⊥) → (little ≡ magic → ⊥) →
-            Causes.NoCapture ≡ header_cause s
+            Some Causes.NoCapture ≡ header_cause s
         unfolding header_cause
         cause_none micro h e = rw (le-ltb (length s) 24 long, ← eb, ← el, ne_eqb big pcapng other, micro, ne_eqb big magic h, ne_eqb little magic e)
 

@@ -1,16 +1,19 @@
 -- The headers of a capture, document 02, "One": "classic libpcap files (either byte order, microsecond stamps, Ethernet link type)".
 -- A file's header is magic (4 bytes), major (2), minor (2), time zone (4), accuracy (4), snap length (4), link type (4); a record's is
 -- seconds (4), microseconds (4), captured length (4), original length (4).
-use Rattle.std.specs.Prelude.{ℕ, zero, suc, ◌+◌, ◌*◌, ◌%◌, [], ◌∷◌, ◌||◌, ◌&&◌, not, length, get_or, ltb, eqb}
+use Rattle.std.specs.Prelude.{ℕ, zero, suc, ◌+◌, ◌*◌, ◌%◌, [], ◌∷◌, ◌||◌, ◌&&◌, not, Option, None, Some, Result, Ok, Err, length, get_or, ltb, eqb}
 use Rattle.wire_read.specs.Wire.{Bytes, number_at}
 use Rattle.wire_read.specs.Tests.{if◌then◌otherwise◌}
 use Rattle.wire_read.specs.Answer.{Answer, done, refused}
 use Rattle.capture_header.specs.declared.Order.{Order}
 use Rattle.capture_header.specs.declared.Order.TheVariants.{Big, Little}
-use Rattle.capture_header.specs.declared.FileHeader.{FileHeader}
-use Rattle.capture_header.specs.declared.FileHeader.TheVariants as Files
-use Rattle.capture_header.specs.declared.RecordHeader.{RecordHeader}
-use Rattle.capture_header.specs.declared.RecordHeader.TheVariants as Records
+use Rattle.refusal.specs.Numbers.{number}
+use Rattle.refusal.specs.declared.Refusal.{Refusal}
+use Rattle.capture_header.specs.FileHeader.{FileHeader}
+use Rattle.capture_header.specs.FileHeader as Files
+use Rattle.capture_header.specs.RecordHeader.{RecordHeader}
+use Rattle.capture_header.specs.RecordHeader as Records
+use Rattle.capture_header.specs.declared.RecordHeader.{RecordHeader as Fields}
 use Rattle.capture_header.specs.declared.HeaderCause.{HeaderCause}
 use Rattle.capture_header.specs.declared.HeaderCause.TheVariants as Causes
 
@@ -53,6 +56,11 @@ file_header s =
     otherwise if eqb (number_in Little 4 s 0) magic then in_order Little s
     otherwise Files.Refused 8201
 
+-- an answer of the code, in these words
+abbrev pub file_header_told : (answer : Result Order Refusal) → FileHeader
+file_header_told (Ok order) = Files.Read order
+file_header_told (Err refusal) = Files.Refused (number refusal)
+
 -- ---- a record's header
 
 abbrev pub seconds_in : (order : Order) (s : Bytes) → ℕ
@@ -74,6 +82,12 @@ record_header order s =
     otherwise if ltb 65535 (captured_in order s) then Records.Refused 8201
     otherwise Records.Read (seconds_in order s) (microseconds_in order s) (captured_in order s) (original_in order s)
 
+-- an answer of the code, in these words
+abbrev pub record_header_told : (answer : Result (Option Fields) Refusal) → RecordHeader
+record_header_told (Ok (Some header)) = Records.Read header.seconds header.microseconds header.captured header.original
+record_header_told (Ok None) = Records.CutShort
+record_header_told (Err refusal) = Records.Refused (number refusal)
+
 -- ---- what a file that is refused is instead
 
 abbrev pub nanoseconds : ℕ
@@ -83,21 +97,21 @@ abbrev pub pcapng : ℕ
 pcapng = 0x0a0d0d0a
 
 -- of a file with our magic: the version comes first, then the link type, whose high half has the bits on check sequences
-unfoldable pub order_cause : (order : Order) (s : Bytes) → HeaderCause
+unfoldable pub order_cause : (order : Order) (s : Bytes) → Option HeaderCause
 order_cause order s =
-    if not (eqb (major_in order s) 2 && eqb (minor_in order s) 4) then Causes.Version (major_in order s) (minor_in order s)
-    otherwise if eqb (link_type order s) 1 then Causes.Nothing
-    otherwise if eqb (link_type order s % 65536) 1 then Causes.CheckSequences
-    otherwise Causes.LinkType (link_type order s % 65536)
+    if not (eqb (major_in order s) 2 && eqb (minor_in order s) 4) then Some (Causes.Version (major_in order s) (minor_in order s))
+    otherwise if eqb (link_type order s) 1 then None
+    otherwise if eqb (link_type order s % 65536) 1 then Some Causes.CheckSequences
+    otherwise Some (Causes.LinkType (link_type order s % 65536))
 
-unfoldable pub header_cause : (s : Bytes) → HeaderCause
+unfoldable pub header_cause : (s : Bytes) → Option HeaderCause
 header_cause s =
-    if ltb (length s) 24 then Causes.Short
-    otherwise if eqb (number_in Big 4 s 0) pcapng then Causes.Pcapng
-    otherwise if eqb (number_in Big 4 s 0) nanoseconds || eqb (number_in Little 4 s 0) nanoseconds then Causes.Nanoseconds
+    if ltb (length s) 24 then Some Causes.Short
+    otherwise if eqb (number_in Big 4 s 0) pcapng then Some Causes.Pcapng
+    otherwise if eqb (number_in Big 4 s 0) nanoseconds || eqb (number_in Little 4 s 0) nanoseconds then Some Causes.Nanoseconds
     otherwise if eqb (number_in Big 4 s 0) magic then order_cause Big s
     otherwise if eqb (number_in Little 4 s 0) magic then order_cause Little s
-    otherwise Causes.NoCapture
+    otherwise Some Causes.NoCapture
 
 -- ---- the paper's number and values for each case
 
@@ -114,12 +128,12 @@ record_header_answer (Records.Read seconds microseconds captured original) = don
 record_header_answer Records.CutShort = done (2 ∷ [])
 record_header_answer (Records.Refused number) = refused number
 
-unfoldable pub header_cause_answer : (cause : HeaderCause) → Answer
-header_cause_answer Causes.Nothing = done (1 ∷ [])
-header_cause_answer Causes.Short = done (2 ∷ [])
-header_cause_answer Causes.Pcapng = done (3 ∷ [])
-header_cause_answer Causes.Nanoseconds = done (4 ∷ [])
-header_cause_answer (Causes.Version major minor) = done (5 ∷ major ∷ minor ∷ [])
-header_cause_answer Causes.CheckSequences = done (6 ∷ [])
-header_cause_answer (Causes.LinkType number) = done (7 ∷ number ∷ [])
-header_cause_answer Causes.NoCapture = done (8 ∷ [])
+unfoldable pub header_cause_answer : (cause : Option HeaderCause) → Answer
+header_cause_answer None = done (1 ∷ [])
+header_cause_answer (Some Causes.Short) = done (2 ∷ [])
+header_cause_answer (Some Causes.Pcapng) = done (3 ∷ [])
+header_cause_answer (Some Causes.Nanoseconds) = done (4 ∷ [])
+header_cause_answer (Some (Causes.Version major minor)) = done (5 ∷ major ∷ minor ∷ [])
+header_cause_answer (Some Causes.CheckSequences) = done (6 ∷ [])
+header_cause_answer (Some (Causes.LinkType number)) = done (7 ∷ number ∷ [])
+header_cause_answer (Some Causes.NoCapture) = done (8 ∷ [])

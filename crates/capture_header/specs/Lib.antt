@@ -1,1 +1,3 @@
+pub mod FileHeader
+pub mod RecordHeader
 pub mod Headers

@@ -3,41 +3,30 @@
 //   record  seconds (4), microseconds (4), captured length (4), original length (4)
 #![tactic(auto)]
 
-ghost use Rattle.std.specs.Prelude.{◌≡◌, ◌≤◌};
-ghost use Rattle.capture_header.specs.Headers.{number_in, in_order, file_header, record_header, order_cause, header_cause};
+ghost use Rattle.std.specs.Prelude.{◌≡◌};
+ghost use Rattle.capture_header.specs.Headers.{number_in, in_order, file_header, file_header_told, record_header, record_header_told, order_cause, header_cause};
 
-use wire_read::{be16, be32, byte};
+use refusal::Refusal;
+use wire_read::{be16, be32};
 
 // The order of the bytes in a file's numbers: the highest first, or the lowest.
-#[derive(Clone, Copy)]
+#[derive(Clone, Copy, Debug, PartialEq, Eq)]
 pub enum Order {
     Big,
     Little,
 }
 
-#[derive(Clone, Copy)]
-pub enum FileHeader {
-    Read(Order),
-    Refused(u16),
-}
-
-#[derive(Clone, Copy)]
-pub enum RecordHeader {
-    Read {
-        seconds: u32,
-        microseconds: u32,
-        captured: u16,
-        original: u32,
-    },
-    // The file ends inside it.
-    CutShort,
-    Refused(u16),
+#[derive(Clone, Copy, Debug, PartialEq, Eq)]
+pub struct RecordHeader {
+    pub seconds: u32,
+    pub microseconds: u32,
+    pub captured: u16,
+    pub original: u32,
 }
 
 // What a file is by its header, for a person whose file is refused.
-#[derive(Clone, Copy)]
+#[derive(Clone, Copy, Debug, PartialEq, Eq)]
 pub enum HeaderCause {
-    Nothing,
     Short,
     Pcapng,
     Nanoseconds,
@@ -54,110 +43,105 @@ const NANOSECONDS: u32 = 0xa1b23c4d;
 
 const PCAPNG: u32 = 0x0a0d0d0a;
 
-// The 16-bit number at a place.
-fn number16(order: Order, s: &[u8], at: usize) -> u16
-    requires { at ≤ 24 }
-    ensures { result ≡ number_in order 2 s.now at }
-{
-    match order {
-        Order::Big => be16(s, at),
-        Order::Little => byte(s, at) as u16 + byte(s, at + 1) as u16 * 256,
+// Two sizes with two lines each: one generic over a trait of both would be longer than they are.
+impl Order {
+    // The 16-bit number at a place.
+    fn number16(self, s: &[u8], at: usize) -> u16
+        ensures { result ≡ number_in self 2 s.now at }
+    {
+        match self {
+            Order::Big => be16(s, at),
+            Order::Little => be16(s, at).swap_bytes(),
+        }
     }
-}
 
-// The 32-bit number at a place.
-fn number32(order: Order, s: &[u8], at: usize) -> u32
-    requires { at ≤ 24 }
-    ensures { result ≡ number_in order 4 s.now at }
-{
-    match order {
-        Order::Big => be32(s, at),
-        Order::Little => {
-            byte(s, at) as u32
-                + byte(s, at + 1) as u32 * 256
-                + byte(s, at + 2) as u32 * 65536
-                + byte(s, at + 3) as u32 * 16777216
+    // The 32-bit number at a place.
+    fn number32(self, s: &[u8], at: usize) -> u32
+        ensures { result ≡ number_in self 4 s.now at }
+    {
+        match self {
+            Order::Big => be32(s, at),
+            Order::Little => be32(s, at).swap_bytes(),
         }
     }
 }
 
-fn in_order(order: Order, s: &[u8]) -> FileHeader
-    ensures { result ≡ in_order order s.now }
+fn in_order(order: Order, s: &[u8]) -> Result<Order, Refusal>
+    ensures { file_header_told result ≡ in_order order s.now }
 {
-    if (number16(order, s, 4) == 2) & (number16(order, s, 6) == 4) & (number32(order, s, 20) == 1) {
-        FileHeader::Read(order)
-    } else {
-        FileHeader::Refused(8201)
+    if (order.number16(s, 4) == 2) & (order.number16(s, 6) == 4) & (order.number32(s, 20) == 1) {
+        return Ok(order);
     }
+    Err(Refusal::NoCapture)
 }
 
-// The header that a file begins with.
-pub fn file_header(s: &[u8]) -> FileHeader
-    ensures { result ≡ file_header s.now }
+// The header that a file begins with: the order of its numbers.
+pub fn file_header(s: &[u8]) -> Result<Order, Refusal>
+    ensures { file_header_told result ≡ file_header s.now }
 {
     if s.len() < 24 {
-        return FileHeader::Refused(8201);
+        return Err(Refusal::NoCapture);
     }
-    if number32(Order::Big, s, 0) == MAGIC {
+    if Order::Big.number32(s, 0) == MAGIC {
         return in_order(Order::Big, s);
     }
-    if number32(Order::Little, s, 0) == MAGIC {
+    if Order::Little.number32(s, 0) == MAGIC {
         return in_order(Order::Little, s);
     }
-    FileHeader::Refused(8201)
+    Err(Refusal::NoCapture)
 }
 
-// The header that a record begins with, in the file's order.
-pub fn record_header(order: Order, s: &[u8]) -> RecordHeader
-    ensures { result ≡ record_header order s.now }
+// The header that a record begins with, in the file's order; none where the file ends inside it.
+pub fn record_header(order: Order, s: &[u8]) -> Result<Option<RecordHeader>, Refusal>
+    ensures { record_header_told result ≡ record_header order s.now }
 {
     if s.len() < 16 {
-        return RecordHeader::CutShort;
+        return Ok(None);
     }
-    let captured = number32(order, s, 8);
+    let captured = order.number32(s, 8);
     if 65535 < captured {
-        return RecordHeader::Refused(8201);
+        return Err(Refusal::NoCapture);
     }
-    RecordHeader::Read {
-        seconds: number32(order, s, 0),
-        microseconds: number32(order, s, 4),
+    Ok(Some(RecordHeader {
+        seconds: order.number32(s, 0),
+        microseconds: order.number32(s, 4),
         captured: captured as u16,
-        original: number32(order, s, 12),
-    }
+        original: order.number32(s, 12),
+    }))
 }
 
-fn order_cause(order: Order, s: &[u8]) -> HeaderCause
+fn order_cause(order: Order, s: &[u8]) -> Option<HeaderCause>
     ensures { result ≡ order_cause order s.now }
 {
-    let major = number16(order, s, 4);
-    let minor = number16(order, s, 6);
-    let link = number32(order, s, 20);
+    let major = order.number16(s, 4);
+    let minor = order.number16(s, 6);
+    let link = order.number32(s, 20);
     if !((major == 2) & (minor == 4)) {
-        return HeaderCause::Version { major, minor };
+        return Some(HeaderCause::Version { major, minor });
     }
     if link == 1 {
-        return HeaderCause::Nothing;
+        return None;
     }
     if link % 65536 == 1 {
-        return HeaderCause::CheckSequences;
+        return Some(HeaderCause::CheckSequences);
     }
-    HeaderCause::LinkType((link % 65536) as u16)
+    Some(HeaderCause::LinkType((link % 65536) as u16))
 }
 
-// What keeps a file from being read, by what it begins with.
-pub fn header_cause(s: &[u8]) -> HeaderCause
+// What keeps a file from being read, by what it begins with; none where nothing does.
+pub fn header_cause(s: &[u8]) -> Option<HeaderCause>
     ensures { result ≡ header_cause s.now }
 {
     if s.len() < 24 {
-        return HeaderCause::Short;
+        return Some(HeaderCause::Short);
     }
-    let big = number32(Order::Big, s, 0);
-    let little = number32(Order::Little, s, 0);
+    let big = Order::Big.number32(s, 0);
+    let little = Order::Little.number32(s, 0);
     if big == PCAPNG {
-        return HeaderCause::Pcapng;
+        return Some(HeaderCause::Pcapng);
     }
     if (big == NANOSECONDS) | (little == NANOSECONDS) {
-        return HeaderCause::Nanoseconds;
+        return Some(HeaderCause::Nanoseconds);
     }
     if big == MAGIC {
         return order_cause(Order::Big, s);
@@ -165,5 +149,5 @@ pub fn header_cause(s: &[u8]) -> HeaderCause
     if little == MAGIC {
         return order_cause(Order::Little, s);
     }
-    HeaderCause::NoCapture
+    Some(HeaderCause::NoCapture)
 }

@@ -10,15 +10,14 @@ use Rattle.wire_read.specs.Wire.{Bytes}
 use Rattle.wire_read.specs.Answer.{Answer, done, refused}
 use Rattle.wire_read.proofs.Tests.{clash, both, by_test}
 use Rattle.sequence_record.specs.declared.Receive.{Receive}
-use Rattle.sequence_record.specs.declared.Verdict.{Verdict}
-use Rattle.sequence_record.specs.declared.Verdict.TheVariants.{Accepted, Refused}
+use Rattle.sequence_record.specs.Verdict.{Verdict, Accepted, Refused}
 use Rattle.sequence_record.specs.Receive.{behind, accepted_before, judged, verdict_answer}
-use Rattle.sequence_packet.specs.declared.Packet.{Packet}
-use Rattle.sequence_packet.specs.declared.Packet.TheVariants as Packets
+use Rattle.sequence_packet.specs.Packet.{Packet}
+use Rattle.sequence_packet.specs.Packet as Packets
 use Rattle.sequence_packet.specs.Packets.{ah_reserved, ah_spi, ah_number, esp_spi, esp_number, ah_size, known, ah, esp, read, packet_answer}
 use Rattle.sequence_table.specs.declared.table.Key.{Key}
-use Rattle.sequence_table.specs.declared.table.Outcome.{Outcome}
-use Rattle.sequence_table.specs.declared.table.Outcome.TheVariants as Outcomes
+use Rattle.sequence_table.specs.Outcome.{Outcome}
+use Rattle.sequence_table.specs.Outcome as Outcomes
 use Rattle.sequence_table.specs.Table.{Table, rooms, words, find, free, entry_at, added, judged_at, packet_read, packet, outcome_answer}
 use Rattle.sequence_history.specs.History.{Call, adds, shows, right_number, answered}
 use Rattle.sequence_history.proofs.Ways.{refused-nothing}

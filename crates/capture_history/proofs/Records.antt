@@ -9,12 +9,12 @@ use lib.Dec.{leb, eqb}
 use Rattle.wire_read.specs.Wire.{Bytes}
 use Rattle.wire_read.specs.Answer.{Answer}
 use Rattle.wire_read.proofs.Tests.{never, by_test}
-use Rattle.port4500.specs.declared.Datagram.{Datagram}
-use Rattle.port4500.specs.declared.Datagram.TheVariants as Datagrams
+use Rattle.port4500.specs.Port.{Datagram}
+use Rattle.port4500.specs.Port as Datagrams
 use Rattle.port4500.specs.Port.{datagram}
 use Rattle.message_header.specs.Header.{flags_of}
-use Rattle.message_chain.specs.declared.Message.{Message}
-use Rattle.message_chain.specs.declared.Message.TheVariants as Messages
+use Rattle.message_chain.specs.Message.{Message}
+use Rattle.message_chain.specs.Message as Messages
 use Rattle.message_chain.specs.Message.{message}
 use Rattle.sequence_table.specs.declared.table.Key.{Key}
 use Rattle.sequence_table.specs.Table.{Table}
@@ -22,7 +22,7 @@ use Rattle.capture_frame.specs.declared.Addresses.{Addresses}
 use Rattle.capture_frame.specs.declared.Frame.{Frame}
 use Rattle.capture_frame.specs.declared.Frame.TheVariants as Frames
 use Rattle.capture_frame.specs.Frame.{carried, bytes_of_part}
-use Rattle.capture_record.specs.declared.Listed.{Listed}
+use Rattle.capture_record.specs.Listed.{Listed}
 use Rattle.capture_record.specs.Listing.{shown, packet_listed, read_listed, message_listed, datagram_listed, frame_listed, listed}
 use Rattle.capture_history.specs.Capture.{ToTable, nothing, ah_or_esp, datagram_to_table, frame_to_table, to_table, ListedBy, accepted_line, verdict_line}
 use Rattle.capture_history.proofs.Packets.{tables-own}

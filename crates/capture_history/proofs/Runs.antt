@@ -9,11 +9,10 @@ use lib.Dec.{eqb, ltb}
 use Rattle.wire_read.specs.Wire.{Bytes}
 use Rattle.wire_read.specs.Answer.{Answer, done, refused}
 use Rattle.wire_read.proofs.Tests.{clash, by_test}
-use Rattle.sequence_record.specs.declared.Verdict.{Verdict}
-use Rattle.sequence_record.specs.declared.Verdict.TheVariants.{Accepted, Refused}
+use Rattle.sequence_record.specs.Verdict.{Verdict, Accepted, Refused}
 use Rattle.sequence_record.specs.Receive.{verdict_answer}
-use Rattle.sequence_packet.specs.declared.Packet.{Packet}
-use Rattle.sequence_packet.specs.declared.Packet.TheVariants as Packets
+use Rattle.sequence_packet.specs.Packet.{Packet}
+use Rattle.sequence_packet.specs.Packet as Packets
 use Rattle.sequence_packet.specs.Packets.{known, read}
 use Rattle.sequence_table.specs.declared.table.Key.{Key}
 use Rattle.sequence_table.specs.Table.{Table, rooms, words, empty}
@@ -23,7 +22,7 @@ use Rattle.sequence_history.proofs.Table.{same_true, empty-long}
 use Rattle.sequence_history.proofs.Ways.{unread, call_length}
 use Rattle.sequence_history.proofs.Runs as History-runs
 use Rattle.capture_frame.specs.declared.Addresses.{Addresses}
-use Rattle.capture_record.specs.declared.Listed.{Listed}
+use Rattle.capture_record.specs.Listed.{Listed}
 use Rattle.capture_record.specs.Listing.{spi_of, number_of, least_bytes, key_of, listed_packet, packet_listed, listed}
 use Rattle.capture_history.specs.Capture.{ToTable, nothing, ah_or_esp, to_table, lines, table_after, accepted_line, accepted_in, verdict_line, verdicts_in, calls_of, capture_calls, after_calls, verdict_of, verdicts_of}
 use Rattle.capture_history.proofs.Packets.{Stays, accepts_it, refuses_it, Way, at_once, begun_first, not-added, way}

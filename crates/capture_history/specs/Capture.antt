@@ -3,23 +3,22 @@ use Rattle.std.specs.Prelude.{ℕ, ◌≡◌, List, [], ◌∷◌, ◌++◌, tru
 use Rattle.wire_read.specs.Wire.{Bytes}
 use Rattle.wire_read.specs.Tests.{if◌then◌otherwise◌}
 use Rattle.wire_read.specs.Answer.{Answer}
-use Rattle.port4500.specs.declared.Datagram.{Datagram}
-use Rattle.port4500.specs.declared.Datagram.TheVariants as Datagrams
+use Rattle.port4500.specs.Port.{Datagram}
+use Rattle.port4500.specs.Port as Datagrams
 use Rattle.port4500.specs.Port.{datagram, handed_on}
-use Rattle.sequence_record.specs.declared.Verdict.{Verdict}
-use Rattle.sequence_record.specs.declared.Verdict.TheVariants as Verdicts
+use Rattle.sequence_record.specs.Verdict.{Verdict}
+use Rattle.sequence_record.specs.Verdict as Verdicts
 use Rattle.sequence_record.specs.Receive.{verdict_answer}
 use Rattle.sequence_table.specs.declared.table.Key.{Key}
-use Rattle.sequence_table.specs.declared.table.Outcome.{Outcome}
-use Rattle.sequence_table.specs.declared.table.Outcome.TheVariants as Outcomes
+use Rattle.sequence_table.specs.Outcome.{Outcome}
+use Rattle.sequence_table.specs.Outcome as Outcomes
 use Rattle.sequence_table.specs.Table.{Table, added, packet}
 use Rattle.sequence_history.specs.History.{Call, adds, removes, shows, sends, asks, Event, is_done, same, answered}
 use Rattle.capture_frame.specs.declared.Addresses.{Addresses}
 use Rattle.capture_frame.specs.declared.Frame.{Frame}
 use Rattle.capture_frame.specs.declared.Frame.TheVariants as Frames
 use Rattle.capture_frame.specs.Frame.{carried, bytes_of_part}
-use Rattle.capture_record.specs.declared.Listed.{Listed}
-use Rattle.capture_record.specs.declared.Listed.TheVariants.{CutShort, NotIpv4, Fragment, OtherProtocol, OtherPorts, Keepalive, Enciphered, Read, Refused, ShortPacket, Packet}
+use Rattle.capture_record.specs.Listed.{Listed, CutShort, NotIpv4, Fragment, OtherProtocol, OtherPorts, Keepalive, Enciphered, Read, Refused, ShortPacket, Packet}
 use Rattle.capture_record.specs.Listing.{ah_protocol, esp_protocol, key_of, is_eleven, listed_packet, listed}
 
 -- ---- what a record is to the table

@@ -7,29 +7,29 @@ use lib.ListN.{length}
 use lib.Dec.{ltb, leb, eqb}
 use borrow.Author.Tests.{lt-leb, ltb-true}
 use Rattle.wire_read.proofs.Tests.{never, clash, by_test}
-use Rattle.port4500.specs.declared.Datagram.{Datagram}
-use Rattle.port4500.specs.declared.Datagram.TheVariants as Datagrams
+use Rattle.port4500.specs.Port.{Datagram}
+use Rattle.port4500.specs.Port as Datagrams
 use Rattle.port4500.specs.Port.{datagram, handed_on}
 use Rattle.sequence_record.specs.declared.Receive.{Receive}
-use Rattle.sequence_record.specs.declared.Verdict.{Verdict}
-use Rattle.sequence_record.specs.declared.Verdict.TheVariants as Verdicts
+use Rattle.sequence_record.specs.Verdict.{Verdict}
+use Rattle.sequence_record.specs.Verdict as Verdicts
 use Rattle.sequence_record.specs.Receive.{behind, accepted_before, judged}
-use Rattle.sequence_packet.specs.declared.Packet.{Packet}
-use Rattle.sequence_packet.specs.declared.Packet.TheVariants as Packets
+use Rattle.sequence_packet.specs.Packet.{Packet}
+use Rattle.sequence_packet.specs.Packet as Packets
 use Rattle.sequence_packet.specs.Packets.{ah_reserved, ah_size, ah_spi, ah_number, esp_spi, esp_number, known, ah, esp, read}
 use Rattle.sequence_table.specs.declared.table.Key.{Key}
-use Rattle.sequence_table.specs.declared.table.Outcome.TheVariants as Outcomes
+use Rattle.sequence_table.specs.Outcome as Outcomes
 use Rattle.sequence_table.specs.Table.{Table, rooms, find, free, entry_at, judged_at, added, packet_read, packet}
-use Rattle.message_chain.specs.declared.Message.{Message}
-use Rattle.message_chain.specs.declared.Message.TheVariants as Messages
+use Rattle.message_chain.specs.Message.{Message}
+use Rattle.message_chain.specs.Message as Messages
 use Rattle.message_chain.specs.Message.{message}
 use Rattle.message_header.specs.Header.{flags_of}
 use Rattle.capture_frame.specs.declared.Addresses.{Addresses}
 use Rattle.capture_frame.specs.declared.Frame.{Frame}
 use Rattle.capture_frame.specs.declared.Frame.TheVariants as Frames
 use Rattle.capture_frame.specs.Frame.{carried, bytes_of_part}
-use Rattle.capture_record.specs.declared.Listed.{Listed}
-use Rattle.capture_record.specs.declared.Listed.TheVariants as Listings
+use Rattle.capture_record.specs.Listed.{Listed}
+use Rattle.capture_record.specs.Listed as Listings
 use Rattle.capture_record.specs.Listing.{ah_protocol, esp_protocol, least_bytes, key_of, added_first, is_eleven, shown, listed_packet, packet_listed, read_listed, message_listed, datagram_listed, frame_listed, listed, is_packet}
 
 -- ---- the table's own verdict

@@ -3,22 +3,26 @@ use Prim.Native.Nat.{ℕ, ◌<◌, ◌≤◌}
 use mathlib.Core.Path.{◌≡◌, ap, sym, ◌∙◌}
 use mathlib.Core.List.{List, []}
 use mathlib.Core.Bool.{Bool, true, false, ◌&&◌}
+use Rattle.sequence_table.specs.declared.table.Key.{Key}
 use lib.ListN.{length, take, drop}
 use lib.Seq.{drop-length}
 use lib.Dec.{leb, eqb}
 use borrow.Author.Tests.{lt-ltb, le-ltb, eq-eqb, ne_eqb}
+use Rattle.std.specs.Prelude.{Result, Ok, Err}
+use Rattle.refusal.specs.Numbers.{number}
+use Rattle.refusal.specs.declared.Refusal.{Refusal}
 use Rattle.port4500.specs.declared.Datagram.{Datagram}
 use Rattle.port4500.specs.declared.Datagram.TheVariants as Datagrams
-use Rattle.port4500.specs.Port.{datagram, handed_on}
+use Rattle.port4500.specs.Port.{datagram, datagram_told, handed_on}
 use Rattle.message_header.specs.Header.{exchange_of, flags_of, message_id_of}
-use Rattle.message_chain.specs.declared.Message.{Message}
-use Rattle.message_chain.specs.declared.Message.TheVariants as Messages
+use Rattle.message_chain.specs.Message.{Message}
+use Rattle.message_chain.specs.Message as Messages
 use Rattle.message_chain.specs.Message.{message}
-use Rattle.sequence_record.specs.declared.Verdict.{Verdict}
-use Rattle.sequence_record.specs.declared.Verdict.TheVariants as Verdicts
+use Rattle.sequence_record.specs.Verdict.{Verdict}
+use Rattle.sequence_record.specs.Verdict as Verdicts
 use Rattle.sequence_packet.specs.Packets.{ah_spi, ah_number, esp_spi, esp_number}
-use Rattle.sequence_table.specs.declared.table.Outcome.{Outcome}
-use Rattle.sequence_table.specs.declared.table.Outcome.TheVariants as Outcomes
+use Rattle.sequence_table.specs.Outcome.{Outcome}
+use Rattle.sequence_table.specs.Outcome as Outcomes
 use Rattle.sequence_table.specs.Table.{Table, added, packet}
 use Rattle.capture_frame.specs.declared.Addresses.{Addresses}
 use Rattle.capture_frame.specs.declared.Part.{Part}
@@ -26,8 +30,7 @@ use Rattle.capture_frame.specs.declared.Ports.{Ports}
 use Rattle.capture_frame.specs.declared.Frame.{Frame}
 use Rattle.capture_frame.specs.declared.Frame.TheVariants as Frames
 use Rattle.capture_frame.specs.Frame.{carried, bytes_of_part}
-use Rattle.capture_record.specs.declared.Listed.{Listed}
-use Rattle.capture_record.specs.declared.Listed.TheVariants.{CutShort, NotIpv4, Fragment, OtherProtocol, OtherPorts, Keepalive, Enciphered, Read, Refused, ShortPacket, Packet}
+use Rattle.capture_record.specs.Listed.{Listed, CutShort, NotIpv4, Fragment, OtherProtocol, OtherPorts, Keepalive, Enciphered, Read, Refused, ShortPacket, Packet}
 use Rattle.capture_record.proofs.Laws.{unknown_keeps}
 use Rattle.capture_record.specs.Listing.{ah_protocol, esp_protocol, least_bytes, spi_of, number_of, added_first, is_eleven, shown, listed_packet, packet_listed, read_listed, message_listed, datagram_listed, frame_listed, listed, handed_in}
 
@@ -53,37 +56,31 @@ module _ (protocol : ℕ) where
     pub number-esp : (protocol ≡ 2 → ⊥) → n ≡ esp_number s → n ≡ number_of protocol s
     number-esp e en = rw (ne_eqb protocol 2 e) en
 
-module _ (verdict : Verdict) where
-  pub eleven_refused : (number : ℕ) → verdict ≡ Verdicts.Refused number → eqb number 11 ≡ is_eleven verdict
-  eleven_refused number e = rw e
+module _ (t : Table) (destination protocol : ℕ) (s : List ℕ) (v : Verdict) (u : Table) (says : packet t destination protocol true s ≡ (v, u))
+    (eleven : Bool) (is : eleven ≡ is_eleven v) where
+  pub known-shown : eleven ≡ false → shown t destination protocol s ≡ (v, u)
+  unfolding shown
+  known-shown h = rw (says, ← is, h)
 
-  pub eleven_accepted : (rise : ℕ) → verdict ≡ Verdicts.Accepted rise → false ≡ is_eleven verdict
-  eleven_accepted rise e = rw e
-
-module _ (t : Table) (destination protocol : ℕ) (s : List ℕ) where
-  module _ (adding : Outcome) where
-    pub adding_refused : (number : ℕ) → adding ≡ Outcomes.Refused number → added_first (adding, t) destination protocol s ≡ (Verdicts.Refused number, t)
-    unfolding added_first
-    adding_refused number e = rw e
-
-    pub adding_done : adding ≡ Outcomes.Done → (r : Verdict) (u : Table) → packet t destination protocol true s ≡ (r, u) →
-        added_first (adding, t) destination protocol s ≡ (r, u)
-    unfolding added_first
-    adding_done e r u says = rw e says
-
-  module _ (v : Verdict) (u : Table) (says : packet t destination protocol true s ≡ (v, u)) (eleven : Bool) (is : eleven ≡ is_eleven v) where
-    pub known-shown : eleven ≡ false → shown t destination protocol s ≡ (v, u)
-    unfolding shown
-    known-shown h = rw (says, ← is, h)
+  module _ (h : eleven ≡ true) (spi : ℕ) (es : spi ≡ spi_of protocol s) where
+    abbrev key : Key
+    key = record { destination = destination; protocol = protocol; spi = spi }
 
     -- the key is added to the table as it was: a packet of an unknown key has changed nothing
-    pub unknown_shown : eleven ≡ true → (spi : ℕ) → spi ≡ spi_of protocol s → (adding : Outcome) (w : Table) →
-        added u (record { destination = destination; protocol = protocol; spi = spi }) ≡ (adding, w) →
-        (r : Verdict) (x : Table) → added_first (adding, w) destination protocol s ≡ (r, x) → shown t destination protocol s ≡ (r, x)
+    first_added : shown t destination protocol s ≡ added_first (added u key) destination protocol s
     unfolding shown
-    unknown_shown h spi es adding w adds r x first =
+    first_added =
         let same : u ≡ t = sym (ap (λ x. x.1) says) ∙ unknown_keeps t destination protocol s (ap (λ x. is_eleven x.0) says ∙ sym is ∙ h) in
-        rw (says, ← is, h, ← same, ← es, adds) first
+        rw (says, ← is, h, ← same, ← es)
+
+    pub adding_refused : (number : ℕ) (w : Table) → added u key ≡ (Outcomes.Refused number, w) → shown t destination protocol s ≡ (Verdicts.Refused number, w)
+    unfolding added_first
+    adding_refused number w e = first_added ∙ rw e
+
+    pub adding_done : (w : Table) → added u key ≡ (Outcomes.Done, w) → (r : Verdict) (x : Table) → packet w destination protocol true s ≡ (r, x) →
+        shown t destination protocol s ≡ (r, x)
+    unfolding added_first
+    adding_done w e r x judged = first_added ∙ rw e judged
 
 module _ (addresses : Addresses) (protocol : ℕ) (s : List ℕ) (verdict : Verdict) (least : ℕ) (el : least ≡ least_bytes protocol) where
   pub short-listed : length s < least → ShortPacket addresses protocol verdict ≡ listed_packet addresses protocol s verdict
@@ -123,24 +120,26 @@ module _ (addresses : Addresses) (m : List ℕ) (flags : ℕ) (ef : flags ≡ fl
   unfolding message_listed
   message-listed h x ex r er = rw (← ef, h, ← ex) er
 
-module _ (t : Table) (addresses : Addresses) (s : List ℕ) (d : Datagram) (is : d ≡ datagram s) where
-  pub keepalive-listed : d ≡ Datagrams.Keepalive → datagram_listed t addresses s (datagram s) ≡ (Keepalive addresses, t)
+module _ (t : Table) (addresses : Addresses) (s : List ℕ) (answer : Result Datagram Refusal) (read : datagram_told answer ≡ datagram s) where
+  module _ (d : Datagram) (is : answer ≡ Ok d) where
+    pub keepalive-listed : d ≡ Datagrams.Keepalive → datagram_listed t addresses s (datagram s) ≡ (Keepalive addresses, t)
+    unfolding datagram_listed
+    keepalive-listed e = rw (← read, is, e)
+
+    pub exchange-listed : (start n : ℕ) → d ≡ Datagrams.KeyExchange start n → (m : List ℕ) → m ≡ drop start s →
+        (r : Listed) → r ≡ message_listed addresses m → datagram_listed t addresses s (datagram s) ≡ (r, t)
+    unfolding datagram_listed handed_on
+    exchange-listed start n e m em r er = rw (← read, is, e, ← em, er)
+
+    pub esp-listed : (n : ℕ) → d ≡ Datagrams.Esp n → (r : Listed) (u : Table) → packet_listed t addresses esp_protocol s ≡ (r, u) →
+        datagram_listed t addresses s (datagram s) ≡ (r, u)
+    unfolding datagram_listed handed_on
+    esp-listed n e r u er = rw (← read, is, e) er
+
+  pub datagram-refused : (refusal : Refusal) → answer ≡ Err refusal → (n : ℕ) → n ≡ number refusal →
+      datagram_listed t addresses s (datagram s) ≡ (Refused addresses n, t)
   unfolding datagram_listed
-  keepalive-listed e = rw (← is, e)
-
-  pub exchange-listed : (start n : ℕ) → d ≡ Datagrams.KeyExchange start n → (m : List ℕ) → m ≡ drop start s →
-      (r : Listed) → r ≡ message_listed addresses m → datagram_listed t addresses s (datagram s) ≡ (r, t)
-  unfolding datagram_listed handed_on
-  exchange-listed start n e m em r er = rw (← is, e, ← em, er)
-
-  pub esp-listed : (n : ℕ) → d ≡ Datagrams.Esp n → (r : Listed) (u : Table) → packet_listed t addresses esp_protocol s ≡ (r, u) →
-      datagram_listed t addresses s (datagram s) ≡ (r, u)
-  unfolding datagram_listed handed_on
-  esp-listed n e r u er = rw (← is, e) er
-
-  pub datagram-refused : (number : ℕ) → d ≡ Datagrams.Refused number → datagram_listed t addresses s (datagram s) ≡ (Refused addresses number, t)
-  unfolding datagram_listed
-  datagram-refused number e = rw (← is, e)
+  datagram-refused refusal e n en = rw (← read, e, en)
 
 -- ---- a record
 

@@ -4,27 +4,26 @@ use Rattle.std.specs.Prelude.{ℕ, List, [], ◌∷◌, Bool, true, false, ◌&&
 use Rattle.wire_read.specs.Wire.{Bytes}
 use Rattle.wire_read.specs.Tests.{if◌then◌otherwise◌}
 use Rattle.wire_read.specs.Answer.{Answer, done}
-use Rattle.port4500.specs.declared.Datagram.{Datagram}
-use Rattle.port4500.specs.declared.Datagram.TheVariants as Datagrams
+use Rattle.port4500.specs.Port.{Datagram}
+use Rattle.port4500.specs.Port as Datagrams
 use Rattle.port4500.specs.Port.{datagram, handed_on}
 use Rattle.message_header.specs.Header.{exchange_of, flags_of, message_id_of}
-use Rattle.message_chain.specs.declared.Message.{Message}
-use Rattle.message_chain.specs.declared.Message.TheVariants as Messages
+use Rattle.message_chain.specs.Message.{Message}
+use Rattle.message_chain.specs.Message as Messages
 use Rattle.message_chain.specs.Message.{message}
-use Rattle.sequence_record.specs.declared.Verdict.{Verdict}
-use Rattle.sequence_record.specs.declared.Verdict.TheVariants as Verdicts
+use Rattle.sequence_record.specs.Verdict.{Verdict}
+use Rattle.sequence_record.specs.Verdict as Verdicts
 use Rattle.sequence_record.specs.Receive.{verdict_answer}
 use Rattle.sequence_packet.specs.Packets.{ah_spi, ah_number, esp_spi, esp_number}
 use Rattle.sequence_table.specs.declared.table.Key.{Key}
-use Rattle.sequence_table.specs.declared.table.Outcome.{Outcome}
-use Rattle.sequence_table.specs.declared.table.Outcome.TheVariants as Outcomes
+use Rattle.sequence_table.specs.Outcome.{Outcome}
+use Rattle.sequence_table.specs.Outcome as Outcomes
 use Rattle.sequence_table.specs.Table.{Table, added, packet}
 use Rattle.capture_frame.specs.declared.Addresses.{Addresses}
 use Rattle.capture_frame.specs.declared.Frame.{Frame}
 use Rattle.capture_frame.specs.declared.Frame.TheVariants as Frames
 use Rattle.capture_frame.specs.Frame.{carried, bytes_of_part, address_values}
-use Rattle.capture_record.specs.declared.Listed.{Listed}
-use Rattle.capture_record.specs.declared.Listed.TheVariants.{CutShort, NotIpv4, Fragment, OtherProtocol, OtherPorts, Keepalive, Enciphered, Read, Refused, ShortPacket, Packet}
+use Rattle.capture_record.specs.Listed.{Listed, CutShort, NotIpv4, Fragment, OtherProtocol, OtherPorts, Keepalive, Enciphered, Read, Refused, ShortPacket, Packet}
 
 -- ---- to the table
 

@@ -3,16 +3,20 @@
 #![tactic(auto)]
 
 ghost use Rattle.std.specs.Prelude.{◌≡◌};
+ghost use Rattle.message_chain.specs.Message.{message_told};
 ghost use Rattle.port4500.specs.Port.{datagram};
 ghost use Rattle.capture_frame.specs.Frame.{carried as Frame·carried, bytes_of_part};
-ghost use Rattle.capture_record.specs.Listing.{least_bytes, spi_of, number_of, added_first, is_eleven, shown, listed_packet, packet_listed, read_listed, message_listed, datagram_listed, listed, handed_in};
+ghost use Rattle.sequence_record.specs.Verdict.{verdict_told};
+ghost use Rattle.capture_record.specs.Listed.{listed_told};
+ghost use Rattle.capture_record.specs.Listing.{least_bytes, spi_of, number_of, is_eleven, shown, listed_packet, packet_listed, read_listed, message_listed, datagram_listed, listed, handed_in};
 
 use capture_frame::{Addresses, Frame, Part, Ports, carried};
 use message_chain::Message;
 use port4500::{Datagram, handed_on};
+use refusal::Refusal;
 use sequence_record::Verdict;
 use sequence_table::table;
-use sequence_table::table::{Key, Outcome, Table};
+use sequence_table::table::{Key, Table};
 use wire_read::{after, be32, byte, front};
 
 #[derive(Clone, Copy)]
@@ -35,7 +39,7 @@ pub enum Listed {
         count: u8,
     },
     // A message, or a datagram of port 4500, that does not.
-    Refused(Addresses, u16),
+    Refused(Addresses, Refusal),
     // An AH or ESP packet, protocol 2 or 3, too short for an SPI and a number.
     ShortPacket {
         addresses: Addresses,
@@ -81,46 +85,33 @@ fn number_of(protocol: u8, s: &[u8]) -> u32
     }
 }
 
+// Whether the packet reads, and its key has no entry.
 fn is_eleven(verdict: Verdict) -> bool
-    ensures { result ≡ is_eleven verdict }
+    ensures { result ≡ is_eleven (verdict_told verdict) }
 {
-    match verdict {
-        Verdict::Refused(number) => number == 11,
-        Verdict::Accepted(_) => false,
-    }
+    verdict == Err(Refusal::InvalidSpi)
 }
 
-// The verdict on a packet whose key was added first: the table's own, or the number of adding where that was refused.
-fn added_first(t: &mut Table, adding: Outcome, destination: u32, protocol: u8, s: &[u8]) -> Verdict
-    ensures { added_first (adding, t.old) destination protocol s.now ≡ (result, t.new) }
-{
-    match adding {
-        Outcome::Refused(number) => Verdict::Refused(number),
-        Outcome::Done => table::packet(t, destination, protocol, true, s),
-    }
-}
-
-// The table's verdict on a packet, its key added first where it has no entry.
+// The table's verdict on a packet, its key added first where it has no entry. Where that is refused, so is the packet.
 fn shown(t: &mut Table, destination: u32, protocol: u8, s: &[u8]) -> Verdict
-    ensures { shown t.old destination protocol s.now ≡ (result, t.new) }
+    ensures { shown t.old destination protocol s.now ≡ (verdict_told result, t.new) }
 {
     let verdict = table::packet(t, destination, protocol, true, s);
-    if is_eleven(verdict) {
-        let adding = table::add(
-            t,
-            Key {
-                destination,
-                protocol,
-                spi: spi_of(protocol, s),
-            },
-        );
-        return added_first(t, adding, destination, protocol, s);
+    if !is_eleven(verdict) {
+        return verdict;
     }
-    verdict
+    let spi = spi_of(protocol, s);
+    let key = Key {
+        destination,
+        protocol,
+        spi,
+    };
+    table::add(t, key)?;
+    table::packet(t, destination, protocol, true, s)
 }
 
 fn listed_packet(addresses: Addresses, protocol: u8, s: &[u8], verdict: Verdict) -> Listed
-    ensures { result ≡ listed_packet addresses protocol s.now verdict }
+    ensures { listed_told result ≡ listed_packet addresses protocol s.now (verdict_told verdict) }
 {
     if s.len() < least_bytes(protocol) {
         return Listed::ShortPacket {
@@ -139,18 +130,18 @@ fn listed_packet(addresses: Addresses, protocol: u8, s: &[u8], verdict: Verdict)
 }
 
 fn packet_listed(t: &mut Table, addresses: Addresses, protocol: u8, s: &[u8]) -> Listed
-    ensures { packet_listed t.old addresses protocol s.now ≡ (result, t.new) }
+    ensures { packet_listed t.old addresses protocol s.now ≡ (listed_told result, t.new) }
 {
     let verdict = shown(t, addresses.destination, protocol, s);
     listed_packet(addresses, protocol, s, verdict)
 }
 
-fn read_listed(addresses: Addresses, read: Message) -> Listed
-    ensures { result ≡ read_listed addresses read }
+fn read_listed(addresses: Addresses, read: Result<Message, Refusal>) -> Listed
+    ensures { listed_told result ≡ read_listed addresses (message_told read) }
 {
     match read {
-        Message::Refused(number) => Listed::Refused(addresses, number),
-        Message::Read { exchange, count } => Listed::Read {
+        Err(refusal) => Listed::Refused(addresses, refusal),
+        Ok(Message { exchange, count }) => Listed::Read {
             addresses,
             exchange,
             count,
@@ -159,7 +150,7 @@ fn read_listed(addresses: Addresses, read: Message) -> Listed
 }
 
 fn message_listed(addresses: Addresses, m: &[u8]) -> Listed
-    ensures { result ≡ message_listed addresses m.now }
+    ensures { listed_told result ≡ message_listed addresses m.now }
 {
     if (28 <= m.len()) & (byte(m, 19) == 1) {
         return Listed::Enciphered {
@@ -172,14 +163,13 @@ fn message_listed(addresses: Addresses, m: &[u8]) -> Listed
 }
 
 fn datagram_listed(t: &mut Table, addresses: Addresses, s: &[u8]) -> Listed
-    ensures { datagram_listed t.old addresses s.now (datagram s.now) ≡ (result, t.new) }
+    ensures { datagram_listed t.old addresses s.now (datagram s.now) ≡ (listed_told result, t.new) }
 {
-    let datagram = port4500::read(s);
-    match datagram {
-        Datagram::Keepalive => Listed::Keepalive(addresses),
-        Datagram::KeyExchange { start, length: _ } => message_listed(addresses, after(s, start)),
-        Datagram::Esp { length: _ } => packet_listed(t, addresses, ESP, s),
-        Datagram::Refused(number) => Listed::Refused(addresses, number),
+    match port4500::read(s) {
+        Ok(Datagram::Keepalive) => Listed::Keepalive(addresses),
+        Ok(Datagram::KeyExchange { start, .. }) => message_listed(addresses, after(s, start)),
+        Ok(Datagram::Esp { .. }) => packet_listed(t, addresses, ESP, s),
+        Err(refusal) => Listed::Refused(addresses, refusal),
     }
 }
 
@@ -192,7 +182,7 @@ fn part_of(s: &[u8], part: Part) -> &[u8]
 
 // What is listed of a record that was so long and of which these bytes were captured.
 pub fn list_record(t: &mut Table, original: u32, s: &[u8]) -> Listed
-    ensures { listed t.old original s.now ≡ (result, t.new) }
+    ensures { listed t.old original s.now ≡ (listed_told result, t.new) }
 {
     let frame = carried(original, s);
     match frame {

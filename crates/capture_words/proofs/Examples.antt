@@ -4,11 +4,11 @@ use mathlib.Core.List.{[], ◌∷◌, ◌++◌}
 use lib.ListN.{replicate}
 use Rattle.wire_read.specs.Wire.{Bytes, number_at}
 use Rattle.message_chain.specs.Message.{payload_at, walk}
-use Rattle.policy_choice.specs.declared.Choice.TheVariants as Choices
+use Rattle.policy_choice.specs.Choice as Choices
 use Rattle.policy_choice.specs.declared.Transforms.TheVariants as Transformed
-use Rattle.sequence_record.specs.declared.Verdict.TheVariants as Verdicts
+use Rattle.sequence_record.specs.Verdict as Verdicts
 use Rattle.capture_frame.specs.declared.Addresses.{Addresses}
-use Rattle.capture_record.specs.declared.Listed.TheVariants as Listings
+use Rattle.capture_record.specs.Listed as Listings
 use Rattle.bench_words.specs.Say.{digits_text, decimal_text, verdict_text, transforms_text}
 use Rattle.capture_words.specs.Texts.{six_digits, place_text, stamp_text, payloads_text, named_text, what_text, choice_text}
 

@@ -7,13 +7,13 @@ use Rattle.message_chain.specs.Message.{payload_at}
 use Rattle.sa_fields.specs.declared.ProposalNumber.{ProposalNumber}
 use Rattle.policy_lines.specs.declared.LineNumber.{LineNumber}
 use Rattle.policy_choice.specs.declared.Transforms.{Transforms}
-use Rattle.policy_choice.specs.declared.Choice.{Choice}
-use Rattle.policy_choice.specs.declared.Choice.TheVariants as Choices
-use Rattle.sequence_record.specs.declared.Verdict.{Verdict}
+use Rattle.policy_choice.specs.Choice.{Choice}
+use Rattle.policy_choice.specs.Choice as Choices
+use Rattle.sequence_record.specs.Verdict.{Verdict}
 use Rattle.capture_frame.specs.declared.Addresses.{Addresses}
 use Rattle.capture_frame.specs.declared.Ports.{Ports}
-use Rattle.capture_record.specs.declared.Listed.{Listed}
-use Rattle.capture_record.specs.declared.Listed.TheVariants as Listings
+use Rattle.capture_record.specs.Listed.{Listed}
+use Rattle.capture_record.specs.Listed as Listings
 use Rattle.capture_record.specs.Listing.{ah_protocol}
 use Rattle.bench_words.specs.Say.{hex_digit_ascii, decimal_text, number_text, refused_text, verdict_text, transforms_text}
 

@@ -5,6 +5,9 @@
 mod number;
 
 ghost use Rattle.bench_words.specs.Say.{Said};
+ghost use Rattle.sequence_record.specs.Verdict.{verdict_told};
+ghost use Rattle.policy_choice.specs.Choice.{choice_told};
+ghost use Rattle.capture_record.specs.Listed.{listed_told};
 ghost use Rattle.capture_words.specs.Texts.{place_text, stamp_text, address_text, addresses_text, addressed_text, protocol_text, ports_text, enciphered_text, payload_text, payloads_text, read_text, message_refused_text, named_text, short_packet_text, spi_text, packet_text, what_text, set_text, chosen_text, choice_text};
 
 use crate::number::{counted, digits, hex_digits, marked, six_digits};
@@ -15,6 +18,7 @@ use capture_record::Listed;
 use message_chain::{Payload, payload_at};
 use policy_choice::{Choice, Transforms};
 use policy_lines::LineNumber;
+use refusal::Refusal;
 use sa_fields::ProposalNumber;
 use sequence_record::Verdict;
 
@@ -97,10 +101,8 @@ fn payloads(out: &mut [u8], said: usize, count: u8, m: &[u8]) -> usize
     ensures { Said out.old said (payloads_text count m.now) result out.new }
 {
     let mut said = append(out, said, b"");
-    let mut k = 0;
-    while k < count {
+    for k in 0..count {
         said = payload(out, said, payload_at(m, k));
-        k += 1;
     }
     said
 }
@@ -146,7 +148,7 @@ fn short_packet(
     protocol: u8,
     verdict: Verdict,
 ) -> usize
-    ensures { Said out.old said (short_packet_text addresses protocol verdict) result out.new }
+    ensures { Said out.old said (short_packet_text addresses protocol (verdict_told verdict)) result out.new }
 {
     let said = named(out, said, addresses, protocol);
     say::verdict(out, said, verdict)
@@ -168,7 +170,7 @@ fn packet(
     number: u32,
     verdict: Verdict,
 ) -> usize
-    ensures { Said out.old said (packet_text addresses protocol spi number verdict) result out.new }
+    ensures { Said out.old said (packet_text addresses protocol spi number (verdict_told verdict)) result out.new }
 {
     let said = named(out, said, addresses, protocol);
     let said = spi_and_number(out, said, spi, number);
@@ -178,7 +180,7 @@ fn packet(
 
 // What a record is listed as; m is the message whose payloads are listed.
 pub fn what(out: &mut [u8], said: usize, listed: Listed, m: &[u8]) -> usize
-    ensures { Said out.old said (what_text listed m.now) result out.new }
+    ensures { Said out.old said (what_text (listed_told listed) m.now) result out.new }
 {
     match listed {
         Listed::CutShort => append(out, said, b"cut short"),
@@ -199,7 +201,12 @@ pub fn what(out: &mut [u8], said: usize, listed: Listed, m: &[u8]) -> usize
             exchange,
             count,
         } => read(out, said, addresses, exchange, count, m),
-        Listed::Refused(addresses, number) => message_refused(out, said, addresses, number),
+        Listed::Refused(addresses, refusal) => message_refused(
+            out,
+            said,
+            addresses,
+            refusal.number(),
+        ),
         Listed::ShortPacket {
             addresses,
             protocol,
@@ -237,11 +244,17 @@ fn chosen(
 }
 
 // What a book chooses of a message: `chosen set S line L transforms T ..` or `refused N`.
-pub fn choice(out: &mut [u8], said: usize, choice: Choice) -> usize
-    ensures { Said out.old said (choice_text choice) result out.new }
+pub fn choice(out: &mut [u8], said: usize, choice: Result<Choice, Refusal>) -> usize
+    ensures { Said out.old said (choice_text (choice_told choice)) result out.new }
 {
     match choice {
-        Choice::Refused(number) => say::refused(out, said, number),
-        Choice::Chosen(set, line, transforms) => chosen(out, said, set, line, transforms),
+        Err(refusal) => say::refused(out, said, refusal.number()),
+        Ok(
+            Choice {
+                set,
+                line,
+                transforms,
+            },
+        ) => chosen(out, said, set, line, transforms),
     }
 }

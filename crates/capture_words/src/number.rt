@@ -7,7 +7,7 @@ use bench_words::say::append;
 use wire_read::after;
 
 // Puts a mark and a number at the end of a text; gives back where the mark stands. The divisor is a constant, which is cheap
-// beside a division by a variable.
+// beside a division by a variable. The loop goes by what is left of the number: a `for` over places would have to break at that too.
 fn spell(mark: u8, n: u64, text: &mut [u8]) -> usize
     requires { length text.old ≡ 21 }
     ensures upper_bound { result < 21 }

@@ -1,17 +1,16 @@
 -- A law for each way out of this crate's functions: what the definitions say under the tests that the code makes.
 use Prim.Native.Nat.{ℕ, zero, suc, ◌+◌, ◌-◌, ◌≤◌, ◌<◌}
-use mathlib.Core.Path.{◌≡◌, refl, sym, ◌∙◌}
+use mathlib.Core.Path.{◌≡◌, refl, sym, ap, ◌∙◌}
 use mathlib.Core.List.{List}
 use mathlib.Core.Bool.{Bool, true, false, not, ◌||◌, ◌&&◌}
 use native.Mathlib.Omega.{arith}
 use lib.ListN.{length, get_or, take, drop, length-drop}
-use lib.Seq.{drop-drop}
 use lib.Dec.{ltb, leb, eqb}
-use borrow.Author.Tests.{lt-ltb, le-ltb, ne_eqb, eq-eqb}
+use borrow.Author.Tests.{lt-ltb, le-ltb, ne_eqb, eq-eqb, eqb-true, eqb-false}
 use Rattle.wire_read.specs.Wire.{number_at}
 use Rattle.wire_read.specs.Tests.{if◌then◌otherwise◌}
 use Rattle.der.specs.Der.{tag_wrong, constructed, head_size, body_size, contents, size, filled, element}
-use Rattle.der.proofs.Laws.{element-fits, filled_none, filled-step}
+use Rattle.der.proofs.Laws.{filled_none, filled-step}
 
 -- ---- head and body
 
@@ -94,25 +93,26 @@ module _ (levels : ℕ) (s : List ℕ) where
         pub element_unfilled : r ≡ false → 0 ≡ element levels s
         element_unfilled w = rw (element-step levels s may, inside, ← is, ← con, ← ef, yes, w)
 
--- ---- list: from at on decides
+-- ---- list: what is left decides
 
-module _ (levels : ℕ) (s : List ℕ) (at : ℕ) (so_far : filled (element levels) (drop at s) ≡ filled (element levels) s) where
-  pub list-end : length s ≤ at → true ≡ filled (element levels) s
-  list-end h = sym (filled_none (element levels) (drop at s) (simp length-drop (omega arith))) ∙ so_far
+module _ (levels : ℕ) (s rest : List ℕ) (so_far : filled (element levels) rest ≡ filled (element levels) s) where
+  module _ (empty : Bool) (tested : empty ≡ eqb (length rest) 0) where
+    pub list-end : empty ≡ true → true ≡ filled (element levels) s
+    list-end h = sym (filled_none (element levels) rest (eqb-true (length rest) 0 (sym tested ∙ h))) ∙ so_far
 
-  module _ (more : at < length s) (rest : List ℕ) (n : ℕ) (er : rest ≡ drop at s) (en : n ≡ element levels rest) where
-    is : n ≡ element levels (drop at s)
-    is = cc
+    module _ (more : empty ≡ false) (n : ℕ) (is : n ≡ element levels rest) where
+      some_left : length rest ≡ 0 → ⊥
+      some_left = eqb-false (length rest) 0 (sym tested ∙ more)
 
-    step : filled (element levels) s ≡ (not (eqb n 0) && filled (element levels) (drop (at + n) s))
-    step = sym so_far ∙ filled-step (element levels) (drop at s) (λ e. omega (arith, length-drop at s)) ∙ rw (← is, drop-drop)
+      step : filled (element levels) s ≡ (not (eqb n 0) && filled (element levels) (drop n rest))
+      step = sym so_far ∙ filled-step (element levels) rest some_left ∙ rw (← is)
 
-    pub list-stop : n ≡ 0 → false ≡ filled (element levels) s
-    list-stop z = rw (step, z)
+      pub list-stop : n ≡ 0 → false ≡ filled (element levels) s
+      list-stop z = rw (step, z)
 
-    module _ (some : n ≡ 0 → ⊥) where
-      pub list_on : filled (element levels) (drop (at + n) s) ≡ filled (element levels) s
-      list_on = sym (step ∙ rw (ne_eqb n 0 some))
+      module _ (one : n ≡ 0 → ⊥) (t : List ℕ) (e : t ≡ drop n rest) where
+        pub list_on : filled (element levels) t ≡ filled (element levels) s
+        list_on = ap (filled (element levels)) e ∙ sym (step ∙ rw (ne_eqb n 0 one))
 
-      pub list-within : at + n ≤ length s
-      list-within = omega (arith, is, element-fits levels (drop at s), length-drop at s)
+        pub list-shorter : length t < length rest
+        list-shorter = omega (arith, some_left, one, ap length e, length-drop n rest)

@@ -87,13 +87,14 @@ fn element(levels: u8, s: &[u8]) -> usize
 fn list(levels: u8, s: &[u8]) -> bool
     ensures { result ≡ filled (element levels) s.now }
 {
-    let mut at = 0;
-    while at < s.len() {
-        let n = element(levels, after(s, at));
+    let mut rest = s;
+    // Each element has its own size, so no iterator steps from one to the next.
+    while !rest.is_empty() {
+        let n = element(levels, rest);
         if n == 0 {
             return false;
         }
-        at += n;
+        rest = after(rest, n);
     }
     true
 }

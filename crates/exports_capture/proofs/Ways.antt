@@ -6,13 +6,14 @@ use borrow.Author.Tests.{eq-eqb, ne_eqb}
 use Rattle.exports_words.specs.Given.{given, left, words}
 use Rattle.capture_header.specs.declared.Order.{Order}
 use Rattle.capture_header.specs.declared.Order.TheVariants as Orders
-use Rattle.capture_header.specs.declared.FileHeader.{FileHeader}
-use Rattle.capture_header.specs.declared.FileHeader.TheVariants as Files
+use Rattle.std.specs.Prelude.{Option, None, Some, Result, Ok, Err}
+use Rattle.refusal.specs.Numbers.{number}
+use Rattle.refusal.specs.declared.Refusal.{Refusal}
+use Rattle.capture_header.specs.FileHeader.{FileHeader}
 use Rattle.capture_header.specs.declared.RecordHeader.{RecordHeader}
-use Rattle.capture_header.specs.declared.RecordHeader.TheVariants as Records
 use Rattle.capture_header.specs.declared.HeaderCause.{HeaderCause}
 use Rattle.capture_header.specs.declared.HeaderCause.TheVariants as Causes
-use Rattle.capture_header.specs.Headers.{record_header, order_value, file_header_answer, record_header_answer, header_cause_answer}
+use Rattle.capture_header.specs.Headers.{file_header_told, record_header, record_header_told, order_value, file_header_answer, record_header_answer, header_cause_answer}
 use Rattle.capture_frame.specs.declared.Frame.{Frame}
 use Rattle.capture_frame.specs.declared.Frame.TheVariants as Frames
 use Rattle.capture_frame.specs.Frame.{frame_answer}
@@ -28,53 +29,60 @@ order_little n other = rw (ne_eqb n 1 other)
 
 -- ---- a file's header
 
-module _ (header said : FileHeader) (same : header ≡ said) (out : List ℕ) where
-  pub file_read : (order : Order) → header ≡ Files.Read order → (value : ℕ) → value ≡ order_value order →
+module _ (header : Result Order Refusal) (said : FileHeader) (same : file_header_told header ≡ said) (out : List ℕ) where
+  pub file_read : (order : Order) → header ≡ Ok order → (value : ℕ) → value ≡ order_value order →
       given 1 (file_header_answer said) out ≡ (0, value ∷ [])
   unfolding given left words file_header_answer
   file_read order form value is = rw (← same, form, is)
 
-  pub file_refused : (number : ℕ) → header ≡ Files.Refused number → given 1 (file_header_answer said) out ≡ (number, out)
+  pub file_refused : (refusal : Refusal) → header ≡ Err refusal → (n : ℕ) → n ≡ number refusal → given 1 (file_header_answer said) out ≡ (n, out)
   unfolding given left file_header_answer
-  file_refused number form = rw (← same, form)
+  file_refused refusal form n is = rw (← same, form, is)
 
 -- ---- what a refused file is
 
-pub cause_form : (cause form : HeaderCause) → cause ≡ form → (ws : List ℕ) → ws ≡ words 3 (header_cause_answer form).values →
-    ws ≡ words 3 (header_cause_answer cause).values
-cause_form cause form is ws are = rw (is, are)
+module _ (cause : Option HeaderCause) (ws : List ℕ) where
+  pub cause_form : (some form : HeaderCause) → cause ≡ Some some → some ≡ form → ws ≡ words 3 (header_cause_answer (Some form)).values →
+      ws ≡ words 3 (header_cause_answer cause).values
+  cause_form some form is same are = rw (is, same, are)
+
+  pub cause_none : cause ≡ None → ws ≡ words 3 (header_cause_answer None).values → ws ≡ words 3 (header_cause_answer cause).values
+  cause_none is are = rw (is, are)
 
 -- every form has values
-cause_done : (cause : HeaderCause) (out : List ℕ) → given 3 (header_cause_answer cause) out ≡ (0, words 3 (header_cause_answer cause).values)
+cause_done : (cause : Option HeaderCause) (out : List ℕ) → given 3 (header_cause_answer cause) out ≡ (0, words 3 (header_cause_answer cause).values)
 unfolding given left header_cause_answer
-cause_done Causes.Nothing out = refl
-cause_done Causes.Short out = refl
-cause_done Causes.Pcapng out = refl
-cause_done Causes.Nanoseconds out = refl
-cause_done (Causes.Version major minor) out = refl
-cause_done Causes.CheckSequences out = refl
-cause_done (Causes.LinkType number) out = refl
-cause_done Causes.NoCapture out = refl
+cause_done None out = refl
+cause_done (Some Causes.Short) out = refl
+cause_done (Some Causes.Pcapng) out = refl
+cause_done (Some Causes.Nanoseconds) out = refl
+cause_done (Some (Causes.Version major minor)) out = refl
+cause_done (Some Causes.CheckSequences) out = refl
+cause_done (Some (Causes.LinkType number)) out = refl
+cause_done (Some Causes.NoCapture) out = refl
 
-pub cause_given : (cause said : HeaderCause) → cause ≡ said → (ws : List ℕ) → ws ≡ words 3 (header_cause_answer cause).values → (out : List ℕ) →
+pub cause_given : (cause said : Option HeaderCause) → cause ≡ said → (ws : List ℕ) → ws ≡ words 3 (header_cause_answer cause).values → (out : List ℕ) →
     given 3 (header_cause_answer said) out ≡ (0, ws)
 cause_given cause said same ws are out = rw (are, same) (cause_done said out)
 
 -- ---- a record's header
 
-module _ (order stated : Order) (named : order ≡ stated) (s : List ℕ) (header : RecordHeader) (is : header ≡ record_header order s) (out : List ℕ) where
-  pub record_read : (seconds microseconds captured original : ℕ) → header ≡ Records.Read seconds microseconds captured original →
-      given 5 (record_header_answer (record_header stated s)) out ≡ (0, 1 ∷ seconds ∷ microseconds ∷ captured ∷ original ∷ [])
-  unfolding given left words record_header_answer
-  record_read seconds microseconds captured original form = rw (← named, ← is, form)
+module _ (order stated : Order) (named : order ≡ stated) (s : List ℕ) (answer : Result (Option RecordHeader) Refusal)
+    (is : record_header_told answer ≡ record_header order s) (out : List ℕ) where
+  module _ (read : Option RecordHeader) (passed : answer ≡ Ok read) where
+    pub record_read : (h : RecordHeader) → read ≡ Some h →
+        given 5 (record_header_answer (record_header stated s)) out ≡ (0, 1 ∷ h.seconds ∷ h.microseconds ∷ h.captured ∷ h.original ∷ [])
+    unfolding given left words record_header_answer
+    record_read h form = rw (← named, ← is, passed, form)
 
-  pub record_cut : header ≡ Records.CutShort → given 5 (record_header_answer (record_header stated s)) out ≡ (0, 2 ∷ 0 ∷ 0 ∷ 0 ∷ 0 ∷ [])
-  unfolding given left words record_header_answer
-  record_cut form = rw (← named, ← is, form)
+    pub record_cut : read ≡ None → given 5 (record_header_answer (record_header stated s)) out ≡ (0, 2 ∷ 0 ∷ 0 ∷ 0 ∷ 0 ∷ [])
+    unfolding given left words record_header_answer
+    record_cut form = rw (← named, ← is, passed, form)
 
-  pub record_refused : (number : ℕ) → header ≡ Records.Refused number → given 5 (record_header_answer (record_header stated s)) out ≡ (number, out)
+  pub record_refused : (refusal : Refusal) → answer ≡ Err refusal → (n : ℕ) → n ≡ number refusal →
+      given 5 (record_header_answer (record_header stated s)) out ≡ (n, out)
   unfolding given left record_header_answer
-  record_refused number form = rw (← named, ← is, form)
+  record_refused refusal form n its = rw (← named, ← is, form, its)
 
 -- ---- what a record carries
 

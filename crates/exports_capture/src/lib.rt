@@ -8,8 +8,9 @@ ghost use Rattle.capture_frame.specs.Frame.{carried, address_values, part_values
 ghost use Rattle.exports_capture.specs.Orders.{order_of};
 
 use capture_frame::{Addresses, Frame, Part};
-use capture_header::{FileHeader, HeaderCause, Order, RecordHeader};
+use capture_header::{HeaderCause, Order};
 
+// The numbers that the header gives an order: no From, since both types are of other crates.
 fn order_value(order: Order) -> u64
     ensures { result ≡ order_value order }
 {
@@ -33,21 +34,20 @@ fn order_of(order: u64) -> Order
 pub fn tallowbrim_file_header(s: &[u8], out: &mut [u64; 1]) -> u32
     ensures { given 1 (file_header_answer (file_header s.now)) out.old ≡ (result, out.new) }
 {
-    let header = capture_header::file_header(s);
-    match header {
-        FileHeader::Read(order) => {
-            *out = [order_value(order)];
-            0
-        }
-        FileHeader::Refused(number) => number as u32,
+    match capture_header::file_header(s) {
+        Ok(order) => *out = [order_value(order)],
+        Err(refusal) => return u32::from(refusal),
     }
+    0
 }
 
-fn cause_words(cause: HeaderCause) -> [u64; 3]
+fn cause_words(cause: Option<HeaderCause>) -> [u64; 3]
     ensures { result ≡ words 3 (header_cause_answer cause).values }
 {
+    let Some(cause) = cause else {
+        return [1, 0, 0];
+    };
     match cause {
-        HeaderCause::Nothing => [1, 0, 0],
         HeaderCause::Short => [2, 0, 0],
         HeaderCause::Pcapng => [3, 0, 0],
         HeaderCause::Nanoseconds => [4, 0, 0],
@@ -70,29 +70,20 @@ pub fn tallowbrim_header_cause(s: &[u8], out: &mut [u64; 3]) -> u32
 pub fn tallowbrim_record_header(order: u64, s: &[u8], out: &mut [u64; 5]) -> u32
     ensures { given 5 (record_header_answer (record_header (order_of order) s.now)) out.old ≡ (result, out.new) }
 {
-    let header = capture_header::record_header(order_of(order), s);
-    match header {
-        RecordHeader::Read {
-            seconds,
-            microseconds,
-            captured,
-            original,
-        } => {
+    match capture_header::record_header(order_of(order), s) {
+        Ok(Some(header)) => {
             *out = [
                 1,
-                seconds as u64,
-                microseconds as u64,
-                captured as u64,
-                original as u64,
+                header.seconds as u64,
+                header.microseconds as u64,
+                header.captured as u64,
+                header.original as u64,
             ];
-            0
         }
-        RecordHeader::CutShort => {
-            *out = [2, 0, 0, 0, 0];
-            0
-        }
-        RecordHeader::Refused(number) => number as u32,
+        Ok(None) => *out = [2, 0, 0, 0, 0],
+        Err(refusal) => return u32::from(refusal),
     }
+    0
 }
 
 // What a record with addresses is, and two values behind them.

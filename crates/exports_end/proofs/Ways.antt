@@ -1,5 +1,6 @@
 -- A law for each way out of the functions that read and write an end's bytes.
 use Prim.Native.Nat.{ℕ, ◌+◌, ◌/◌, ◌%◌}
+use denote.Enum.Declared.{tag_of}
 use mathlib.Core.Path.{◌≡◌, refl, sym, ap, ◌∙◌}
 use mathlib.Core.List.{List, [], ◌∷◌, ◌++◌}
 use native.Mathlib.Omega.{arith}
@@ -22,41 +23,55 @@ use Rattle.quick_end.specs.declared.Progress.{Progress}
 use Rattle.quick_end.specs.declared.Own.{Own}
 use Rattle.quick_end.specs.declared.End.{End}
 use Rattle.exports_end.proofs.Values.{three-transforms}
+use Rattle.quick_end.specs.contracts.Role as roles
+use Rattle.quick_end.specs.contracts.State as states
 use Rattle.exports_end.specs.Ends.{state_number, state_of, role_number, role_of, transforms_values, spis_values, spis_bytes, agreed_bytes, progress_bytes, own_bytes, end_bytes, transforms_of, spis_in, agreed_of, progress_of, own_in, end_of}
+
+-- ---- kinds by their numbers, as the cast has them
+
+pub state-tagged : (state : State) → tag_of states.the_type state ≡ state_number state
+unfolding state_number
+state-tagged Idle = refl
+state-tagged Sent = refl
+state-tagged Half = refl
+state-tagged Open = refl
+state-tagged GivenUp = refl
+
+pub role-tagged : (role : Role) → tag_of roles.the_type role ≡ role_number role
+unfolding role_number
+role-tagged Initiator = refl
+role-tagged Responder = refl
 
 -- ---- reading
 
 module _ (number : ℕ) where
   pub state_idle : number ≡ 0 → Idle ≡ state_of number
   unfolding state_of
-  state_idle h = rw (eq-eqb number 0 h)
+  state_idle h = rw h
+
+  pub state_sent : number ≡ 1 → Sent ≡ state_of number
+  unfolding state_of
+  state_sent h = rw h
+
+  pub state_half : number ≡ 2 → Half ≡ state_of number
+  unfolding state_of
+  state_half h = rw h
+
+  pub state_open : number ≡ 3 → Open ≡ state_of number
+  unfolding state_of
+  state_open h = rw h
+
+  pub state_given-up : (number ≡ 0 → ⊥) → (number ≡ 1 → ⊥) → (number ≡ 2 → ⊥) → (number ≡ 3 → ⊥) → GivenUp ≡ state_of number
+  unfolding state_of
+  state_given-up a b c d = rw (ne_eqb number 0 a, ne_eqb number 1 b, ne_eqb number 2 c, ne_eqb number 3 d)
 
   pub role_initiator : number ≡ 0 → Initiator ≡ role_of number
   unfolding role_of
-  role_initiator h = rw (eq-eqb number 0 h)
+  role_initiator h = rw h
 
-  module _ (some : number ≡ 0 → ⊥) where
-    pub role_responder : Responder ≡ role_of number
-    unfolding role_of
-    role_responder = rw (ne_eqb number 0 some)
-
-    pub state_sent : number ≡ 1 → Sent ≡ state_of number
-    unfolding state_of
-    state_sent h = rw (ne_eqb number 0 some, eq-eqb number 1 h)
-
-    module _ (not-sent : number ≡ 1 → ⊥) where
-      pub state_half : number ≡ 2 → Half ≡ state_of number
-      unfolding state_of
-      state_half h = rw (ne_eqb number 0 some, ne_eqb number 1 not-sent, eq-eqb number 2 h)
-
-      module _ (not-half : number ≡ 2 → ⊥) where
-        pub state_open : number ≡ 3 → Open ≡ state_of number
-        unfolding state_of
-        state_open h = rw (ne_eqb number 0 some, ne_eqb number 1 not-sent, ne_eqb number 2 not-half, eq-eqb number 3 h)
-
-        pub state_given-up : (number ≡ 3 → ⊥) → GivenUp ≡ state_of number
-        unfolding state_of
-        state_given-up h = rw (ne_eqb number 0 some, ne_eqb number 1 not-sent, ne_eqb number 2 not-half, ne_eqb number 3 h)
+  pub role_responder : (number ≡ 0 → ⊥) → Responder ≡ role_of number
+  unfolding role_of
+  role_responder some = rw (ne_eqb number 0 some)
 
 module _ (s : List ℕ) (count first second : ℕ) (ec : count ≡ get_or s 0 0) where
   module _ (ef : first ≡ get_or s 1 0) where

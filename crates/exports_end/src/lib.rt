@@ -15,49 +15,35 @@ use wire_write::{put_be16, put_be32, put_be64, put_byte, put_bytes};
 pub fn state_number(state: State) -> u8
     ensures { result ≡ state_number state }
 {
-    match state {
-        State::Idle => 0,
-        State::Sent => 1,
-        State::Half => 2,
-        State::Open => 3,
-        State::GivenUp => 4,
-    }
+    state as u8
 }
 
+// C lends any byte, and each is read as some state or role, so that there is nothing to refuse.
 fn state_of(number: u8) -> State
     ensures { result ≡ state_of number }
 {
-    if number == 0 {
-        return State::Idle;
+    match number {
+        0 => State::Idle,
+        1 => State::Sent,
+        2 => State::Half,
+        3 => State::Open,
+        _ => State::GivenUp,
     }
-    if number == 1 {
-        return State::Sent;
-    }
-    if number == 2 {
-        return State::Half;
-    }
-    if number == 3 {
-        return State::Open;
-    }
-    State::GivenUp
 }
 
 fn role_number(role: Role) -> u8
     ensures { result ≡ role_number role }
 {
-    match role {
-        Role::Initiator => 0,
-        Role::Responder => 1,
-    }
+    role as u8
 }
 
 fn role_of(number: u8) -> Role
     ensures { result ≡ role_of number }
 {
-    if number == 0 {
-        return Role::Initiator;
+    match number {
+        0 => Role::Initiator,
+        _ => Role::Responder,
     }
-    Role::Responder
 }
 
 // How many, the first, and the second or 0.

@@ -3,29 +3,31 @@
 
 ghost use Rattle.std.specs.Prelude.{◌≡◌};
 ghost use Rattle.exports_words.specs.Given.{words, given};
+ghost use Rattle.policy_lawful.specs.Difference.{difference_told};
 ghost use Rattle.policy_lawful.specs.Lawful.{reply_lawful, lawful_answer, first_difference, difference_values, difference_answer};
 
-use policy_lawful::{Difference, Lawfulness, first_difference, reply_lawful};
+use policy_lawful::{Difference, first_difference, reply_lawful};
 
 // Whether a reply is lawful beside the offer that it answers and, where there is one, a book: 0, or the refusal.
 pub fn tallowbrim_lawful(offer: &[u8], reply: &[u8], booked: bool, book: &[u8]) -> u32
     ensures { result ≡ (lawful_answer (reply_lawful booked book.now offer.now reply.now)).number }
 {
-    let said = reply_lawful(booked, book, offer, reply);
-    match said {
-        Lawfulness::Refused(number) => number as u32,
-        Lawfulness::Lawful => 0,
+    match reply_lawful(booked.then_some(book), offer, reply) {
+        Err(refusal) => u32::from(refusal),
+        Ok(()) => 0,
     }
 }
 
-fn difference_words(difference: Difference) -> [u64; 5]
-    ensures { result ≡ words 5 (difference_values difference) }
+fn difference_words(difference: Option<Difference>) -> [u64; 5]
+    ensures { result ≡ words 5 (difference_values (difference_told difference)) }
 {
+    let Some(difference) = difference else {
+        return [1, 0, 0, 0, 0];
+    };
     match difference {
-        Difference::Nothing => [1, 0, 0, 0, 0],
-        Difference::OfferRefused(number) => [2, number as u64, 0, 0, 0],
-        Difference::BookRefused(number) => [3, number as u64, 0, 0, 0],
-        Difference::ReplyRefused(number) => [4, number as u64, 0, 0, 0],
+        Difference::OfferRefused(refusal) => [2, refusal.number() as u64, 0, 0, 0],
+        Difference::BookRefused(refusal) => [3, refusal.number() as u64, 0, 0, 0],
+        Difference::ReplyRefused(refusal) => [4, refusal.number() as u64, 0, 0, 0],
         Difference::SeveralSets(count) => [5, count as u64, 0, 0, 0],
         Difference::SetNotOffered(number) => [6, number.0 as u64, 0, 0, 0],
         Difference::Protocols => [7, 0, 0, 0, 0],
@@ -77,6 +79,6 @@ pub fn tallowbrim_difference(
 ) -> u32
     ensures { given 5 (difference_answer (first_difference booked book.now offer.now reply.now)) out.old ≡ (result, out.new) }
 {
-    *out = difference_words(first_difference(booked, book, offer, reply));
+    *out = difference_words(first_difference(booked.then_some(book), offer, reply));
     0
 }

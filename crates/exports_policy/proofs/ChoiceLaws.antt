@@ -5,8 +5,8 @@ use native.Mathlib.Omega.{arith}
 use Rattle.sa_fields.specs.declared.ProposalNumber.{ProposalNumber}
 use Rattle.sa_fields.specs.declared.TransformNumber.{TransformNumber}
 use Rattle.policy_lines.specs.declared.LineNumber.{LineNumber}
-use Rattle.policy_choice.specs.declared.Choice.{Choice}
-use Rattle.policy_choice.specs.declared.Choice.TheVariants.{Refused, Chosen}
+use Rattle.policy_choice.specs.Choice.{Choice}
+use Rattle.policy_choice.specs.Choice.{Refused, Chosen}
 use Rattle.policy_choice.specs.declared.Transforms.TheVariants.{One, Two}
 use Rattle.exports_words.specs.Given.{words}
 use Rattle.exports_policy.specs.Choices.{chosen_answer}

@@ -2,8 +2,8 @@
 -- second has the number 0.
 use Rattle.std.specs.Prelude.{[], ◌∷◌}
 use Rattle.wire_read.specs.Answer.{Answer, done, refused}
-use Rattle.policy_choice.specs.declared.Choice.{Choice}
-use Rattle.policy_choice.specs.declared.Choice.TheVariants.{Refused, Chosen}
+use Rattle.policy_choice.specs.Choice.{Choice}
+use Rattle.policy_choice.specs.Choice.{Refused, Chosen}
 use Rattle.policy_choice.specs.declared.Transforms.TheVariants.{One, Two}
 
 unfoldable pub chosen_answer : (chosen : Choice) → Answer

@@ -2,7 +2,7 @@
 use Rattle.std.specs.Prelude.{ℕ, List}
 use Rattle.wire_read.specs.Wire.{Bytes}
 use Rattle.policy_reply.specs.Reply.{reply_answer}
-use Rattle.policy_reply.specs.declared.Outcome.{Outcome}
+use Rattle.policy_reply.specs.Reply.{Outcome}
 use Rattle.exports_words.specs.Given.{given}
 
 unfoldable pub reply_given : (replied : Outcome × Bytes) (out : List ℕ) → (ℕ × List ℕ) × Bytes

@@ -12,16 +12,15 @@ ghost use Rattle.exports_policy.specs.Replies.{reply_given};
 use policy_book::{Book, read_book};
 use policy_choice::choose::choose;
 use policy_choice::{Choice, Transforms};
-use policy_reply::{Outcome, reply};
+use policy_reply::{OwnSpis, reply};
 
 // Reads a book: how many main lines it has, and how many quick lines.
 pub fn tallowbrim_book(book: &[u8], out: &mut [u64; 2]) -> u32
     ensures { given 2 (book_answer (book_read book.now)) out.old ≡ (result, out.new) }
 {
-    let answer = read_book(book);
-    match answer {
-        Book::Refused(number) => number as u32,
-        Book::Lawful { main, quick } => {
+    match read_book(book) {
+        Err(refusal) => u32::from(refusal),
+        Ok(Book { main, quick }) => {
             *out = [main as u64, quick as u64];
             0
         }
@@ -32,18 +31,19 @@ pub fn tallowbrim_book(book: &[u8], out: &mut [u64; 2]) -> u32
 pub fn tallowbrim_choose(book: &[u8], m: &[u8], out: &mut [u64; 5]) -> u32
     ensures { given 5 (chosen_answer (choice book.now m.now)) out.old ≡ (result, out.new) }
 {
-    let answer = choose(book, m);
-    match answer {
-        Choice::Refused(number) => number as u32,
-        Choice::Chosen(set, line, transforms) => {
-            match transforms {
-                Transforms::One(t) => {
-                    *out = [set.0 as u64, line.0 as u64, 1, t.0 as u64, 0];
-                }
-                Transforms::Two(t, u) => {
-                    *out = [set.0 as u64, line.0 as u64, 2, t.0 as u64, u.0 as u64];
-                }
-            }
+    match choose(book, m) {
+        Err(refusal) => u32::from(refusal),
+        Ok(
+            Choice {
+                set,
+                line,
+                transforms,
+            },
+        ) => {
+            *out = match transforms {
+                Transforms::One(t) => [set.0 as u64, line.0 as u64, 1, t.0 as u64, 0],
+                Transforms::Two(t, u) => [set.0 as u64, line.0 as u64, 2, t.0 as u64, u.0 as u64],
+            };
             0
         }
     }
@@ -60,10 +60,9 @@ pub fn tallowbrim_reply(
 ) -> u32
     ensures { reply_given (replied book.now m.now ah esp buffer.old) out.old ≡ ((result, out.new), buffer.new) }
 {
-    let outcome = reply(book, m, ah, esp, buffer);
-    match outcome {
-        Outcome::Refused(number) => number as u32,
-        Outcome::Written(size) => {
+    match reply(book, m, OwnSpis { ah, esp }, buffer) {
+        Err(refusal) => u32::from(refusal),
+        Ok(size) => {
             *out = [size as u64];
             0
         }

@@ -10,12 +10,16 @@ use Rattle.quick_end.specs.declared.Role.{Role}
 use Rattle.quick_end.specs.declared.Role.TheVariants.{Initiator, Responder}
 use Rattle.quick_end.specs.declared.Progress.{Progress}
 use Rattle.quick_end.specs.declared.End.{End}
-use Rattle.quick_end.specs.declared.Made.{Made}
-use Rattle.quick_end.specs.Fresh.{fresh}
+use Rattle.quick_end.specs.Fresh.{made_told, fresh}
+use Rattle.std.specs.Prelude.{Ok, Err}
+use Rattle.refusal.specs.declared.Refusal.{Refusal}
+use Rattle.refusal.specs.Numbers.{number}
+use Rattle.refusal.proofs.Laws.{number-not_zero}
 use Rattle.quick_shape.specs.Shapes.{nonce}
-use Rattle.quick_step.specs.declared.StepAnswer.TheVariants.{Send, Nothing, Refused}
-use Rattle.quick_step.specs.declared.Stepped.{Stepped}
-use Rattle.quick_step.specs.Steps.{After, after_step, step_answer}
+use Rattle.quick_step.specs.declared.StepAnswer.TheVariants as answers
+use Rattle.quick_step.specs.declared.Stepped.{Stepped as Step}
+use Rattle.quick_step.specs.Steps.{Stepped}
+use Rattle.quick_step.specs.Steps.{After, after_step, stepped_told, step_answer}
 use Rattle.quick_begin.specs.Begin.{begun}
 use Rattle.quick_tick.specs.Tick.{ticked}
 use Rattle.quick_deliver.specs.Deliver.{delivered}
@@ -33,30 +37,31 @@ module _ (initiator : Bool) where
   unfolding role_by
   role_responder h = rw h
 
-module _ (end : List ℕ) (initiator : Bool) (role : Role) (er : role ≡ role_by initiator) (icookie rcookie : ℕ) (book : List ℕ) (ah esp : ℕ) (nonce : List ℕ)
-    (made : Made) (em : made ≡ fresh role icookie rcookie book ah esp nonce) where
-  pub fresh-refused : (made.number ≡ 0 → ⊥) → fresh_called end (fresh (role_by initiator) icookie rcookie book ah esp nonce) ≡ (made.number, end)
+module _ (end : List ℕ) (initiator : Bool) (role : Role) (er : role ≡ role_by initiator) (icookie rcookie : ℕ) (book : List ℕ) (ah esp : ℕ) (nonce : List ℕ) where
+  pub fresh-refused : (refusal : Refusal) → made_told role (Err refusal) ≡ fresh role icookie rcookie book ah esp nonce → (n : ℕ) → n ≡ number refusal →
+      fresh_called end (fresh (role_by initiator) icookie rcookie book ah esp nonce) ≡ (n, end)
   unfolding fresh_called
-  fresh-refused h = rw (← er, ← em, ne_eqb made.number 0 h)
+  fresh-refused refusal em n en = rw (← er, ← em, number-not_zero refusal, en)
 
-  pub fresh-made : made.number ≡ 0 → (b : List ℕ) → b ≡ paste end 0 (end_bytes made.end) →
-      fresh_called end (fresh (role_by initiator) icookie rcookie book ah esp nonce) ≡ (0, b)
+  pub fresh-made : (made : End) → made_told role (Ok made) ≡ fresh role icookie rcookie book ah esp nonce → (b : List ℕ) →
+      b ≡ paste end 0 (end_bytes made) → fresh_called end (fresh (role_by initiator) icookie rcookie book ah esp nonce) ≡ (0, b)
   unfolding fresh_called
-  fresh-made h b eb = rw (← er, ← em, eq-eqb made.number 0 h, h, eb)
+  fresh-made made em b eb = rw (← er, ← em, eb)
 
 -- ---- a step
 
-module _ (end out : List ℕ) (step : Stepped) where
-  pub finish_refused : (number : ℕ) → step.answer ≡ Refused number → finished end out step ≡ (number, end, out)
+module _ (end out : List ℕ) (step : Step) where
+  pub finish_refused : (refusal : Refusal) → step.answer ≡ answers.Refused refusal → (n : ℕ) → n ≡ number refusal →
+      finished end out (stepped_told step) ≡ (n, end, out)
   unfolding finished step_answer end_after left
-  finish_refused number is = rw is
+  finish_refused refusal is n en = rw (is, en)
 
   module _ (b : List ℕ) (eb : b ≡ paste end 0 (progress_bytes step.end.progress)) where
-    pub finish_nothing : step.answer ≡ Nothing → finished end out step ≡ (0, b, 0 ∷ 0 ∷ [])
+    pub finish_nothing : step.answer ≡ answers.Nothing → finished end out (stepped_told step) ≡ (0, b, 0 ∷ 0 ∷ [])
     unfolding finished step_answer end_after left words
     finish_nothing is = rw (is, eb)
 
-    pub finish_send : (size : ℕ) → step.answer ≡ Send size → finished end out step ≡ (0, b, 1 ∷ size ∷ [])
+    pub finish_send : (size : ℕ) → step.answer ≡ answers.Send size → finished end out (stepped_told step) ≡ (0, b, 1 ∷ size ∷ [])
     unfolding finished step_answer end_after left words
     finish_send size is = rw (is, eb)
 

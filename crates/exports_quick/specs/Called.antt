@@ -8,10 +8,10 @@ use Rattle.quick_end.specs.declared.Role.{Role}
 use Rattle.quick_end.specs.declared.Role.TheVariants.{Initiator, Responder}
 use Rattle.quick_end.specs.declared.Agreed.{Agreed}
 use Rattle.quick_end.specs.declared.Progress.{Progress}
-use Rattle.quick_end.specs.declared.Made.{Made}
-use Rattle.quick_step.specs.declared.StepAnswer.{StepAnswer}
-use Rattle.quick_step.specs.declared.StepAnswer.TheVariants.{Send, Nothing, Refused}
-use Rattle.quick_step.specs.declared.Stepped.{Stepped}
+use Rattle.quick_end.specs.Fresh.{Made}
+use Rattle.quick_step.specs.Steps.{StepAnswer}
+use Rattle.quick_step.specs.Steps.{Send, Nothing, Refused}
+use Rattle.quick_step.specs.Steps.{Stepped}
 use Rattle.quick_step.specs.Steps.{After, step_answer}
 use Rattle.exports_words.specs.Given.{left}
 use Rattle.exports_end.specs.Ends.{state_number, transforms_values, spis_values, progress_bytes, end_bytes}

@@ -3,6 +3,7 @@
 
 ghost use Rattle.std.specs.Prelude.{◌≡◌};
 ghost use Rattle.quick_end.specs.Fresh.{fresh};
+ghost use Rattle.quick_step.specs.Steps.{stepped_told};
 ghost use Rattle.quick_shape.specs.Shapes.{nonce};
 ghost use Rattle.quick_begin.specs.Begin.{begun};
 ghost use Rattle.quick_tick.specs.Tick.{ticked};
@@ -45,24 +46,24 @@ pub fn tallowbrim_fresh(
     ensures { fresh_called end.old
         (fresh (role_by initiator) icookie rcookie book.now ah esp nonce.now) ≡ (result, end.new) }
 {
-    let made = fresh(role_by(initiator), icookie, rcookie, book, ah, esp, nonce);
-    if made.number != 0 {
-        return made.number as u32;
+    match fresh(role_by(initiator), icookie, rcookie, book, ah, esp, nonce) {
+        Ok(begins) => {
+            put_end(end, begins);
+            0
+        }
+        Err(refusal) => u32::from(refusal),
     }
-    let begins = made.end;
-    put_end(end, begins);
-    0
 }
 
 // What a step leaves of a lent end, and in the words.
 fn finish(end: &mut [u8; 398], step: Stepped, out: &mut [u64; 2]) -> u32
-    ensures { finished end.old out.old step ≡ (result, end.new, out.new) }
+    ensures { finished end.old out.old (stepped_told step) ≡ (result, end.new, out.new) }
 {
     let answer = step.answer;
     let after = step.end;
     let progress = after.progress;
     match answer {
-        StepAnswer::Refused(number) => number as u32,
+        StepAnswer::Refused(refusal) => u32::from(refusal),
         StepAnswer::Nothing => {
             put_progress(end, progress);
             *out = [0, 0];

@@ -19,32 +19,22 @@ use port4500::Datagram;
 pub fn tallowbrim_datagram(s: &[u8], out: &mut [u64; 3]) -> u32
     ensures { given 3 (datagram_answer (datagram s.now)) out.old ≡ (result, out.new) }
 {
-    let answer = port4500::read(s);
-    match answer {
-        Datagram::Keepalive => {
-            *out = [1, 0, 0];
-            0
-        }
-        Datagram::KeyExchange { start, length } => {
-            *out = [2, start as u64, length as u64];
-            0
-        }
-        Datagram::Esp { length } => {
-            *out = [3, length as u64, 0];
-            0
-        }
-        Datagram::Refused(number) => number as u32,
+    match port4500::read(s) {
+        Ok(Datagram::Keepalive) => *out = [1, 0, 0],
+        Ok(Datagram::KeyExchange { start, length }) => *out = [2, start as u64, length as u64],
+        Ok(Datagram::Esp { length }) => *out = [3, length as u64, 0],
+        Err(refusal) => return u32::from(refusal),
     }
+    0
 }
 
 // Reads a message: its exchange, and how many payloads it has.
 pub fn tallowbrim_message(m: &[u8], out: &mut [u64; 2]) -> u32
     ensures { given 2 (message_answer (message m.now)) out.old ≡ (result, out.new) }
 {
-    let answer = message_chain::read(m);
-    match answer {
-        Message::Refused(number) => number as u32,
-        Message::Read { exchange, count } => {
+    match message_chain::read(m) {
+        Err(refusal) => u32::from(refusal),
+        Ok(Message { exchange, count }) => {
             *out = [exchange as u64, count as u64];
             0
         }
@@ -55,11 +45,10 @@ pub fn tallowbrim_message(m: &[u8], out: &mut [u64; 2]) -> u32
 pub fn tallowbrim_payload(m: &[u8], place: u8, out: &mut [u64; 3]) -> u32
     ensures { given 3 (payload_answer place m.now) out.old ≡ (result, out.new) }
 {
-    let answer = message_chain::read(m);
-    match answer {
-        Message::Refused(number) => number as u32,
-        Message::Read { exchange: _, count } => {
-            if count <= place {
+    match message_chain::read(m) {
+        Err(refusal) => u32::from(refusal),
+        Ok(read) => {
+            if read.count <= place {
                 return 16;
             }
             let p = payload_at(m, place);
@@ -73,7 +62,10 @@ pub fn tallowbrim_payload(m: &[u8], place: u8, out: &mut [u64; 3]) -> u32
 pub fn tallowbrim_identity(exchange: u8, s: &[u8]) -> u32
     ensures { result ≡ identity_code exchange s.now }
 {
-    identity_code(exchange, s) as u32
+    match identity_code(exchange, s) {
+        Err(refusal) => u32::from(refusal),
+        Ok(()) => 0,
+    }
 }
 
 fn lawful_code(lawful: bool) -> u32

@@ -1,7 +1,7 @@
 -- What is listed of a record as it is given: its number and words, and the table after it.
 use Rattle.std.specs.Prelude.{ℕ, List}
 use Rattle.sequence_table.specs.Table.{Table}
-use Rattle.capture_record.specs.declared.Listed.{Listed}
+use Rattle.capture_record.specs.Listed.{Listed}
 use Rattle.capture_record.specs.Listing.{listed_answer}
 use Rattle.exports_words.specs.Given.{given}
 

@@ -3,8 +3,9 @@
 
 ghost use Rattle.std.specs.Prelude.{◌≡◌, [], ◌∷◌};
 ghost use Rattle.exports_words.specs.Given.{words};
+ghost use Rattle.sequence_record.specs.Verdict.{verdict_told};
 ghost use Rattle.capture_frame.specs.Frame.{address_values};
-ghost use Rattle.capture_record.specs.declared.Listed.TheVariants.{ShortPacket, Packet};
+ghost use Rattle.capture_record.specs.Listed.{ShortPacket, Packet, listed_told};
 ghost use Rattle.capture_record.specs.Listing.{listed, verdict_values, listed_answer};
 ghost use Rattle.exports_record.specs.Listings.{listed_given};
 
@@ -30,16 +31,16 @@ fn addressed(what: u64, addresses: Addresses, first: u64, second: u64) -> [u64; 
 }
 
 fn verdict_words(verdict: Verdict) -> [u64; 2]
-    ensures { result ≡ words 2 (verdict_values verdict) }
+    ensures { result ≡ words 2 (verdict_values (verdict_told verdict)) }
 {
     match verdict {
-        Verdict::Accepted(rise) => [0, rise],
-        Verdict::Refused(number) => [number as u64, 0],
+        Ok(rise) => [0, rise],
+        Err(refusal) => [refusal.number() as u64, 0],
     }
 }
 
 fn short_packet(addresses: Addresses, protocol: u8, verdict: Verdict) -> [u64; 8]
-    ensures { result ≡ words 8 (listed_answer (ShortPacket addresses protocol verdict)).values }
+    ensures { result ≡ words 8 (listed_answer (ShortPacket addresses protocol (verdict_told verdict))).values }
 {
     let v = verdict_words(verdict);
     [
@@ -55,7 +56,7 @@ fn short_packet(addresses: Addresses, protocol: u8, verdict: Verdict) -> [u64; 8
 }
 
 fn packet(addresses: Addresses, protocol: u8, spi: u32, number: u32, verdict: Verdict) -> [u64; 8]
-    ensures { result ≡ words 8 (listed_answer (Packet addresses protocol spi number verdict)).values }
+    ensures { result ≡ words 8 (listed_answer (Packet addresses protocol spi number (verdict_told verdict))).values }
 {
     let v = verdict_words(verdict);
     [
@@ -71,7 +72,7 @@ fn packet(addresses: Addresses, protocol: u8, spi: u32, number: u32, verdict: Ve
 }
 
 fn listed_words(listed: Listed) -> [u64; 8]
-    ensures { result ≡ words 8 (listed_answer listed).values }
+    ensures { result ≡ words 8 (listed_answer (listed_told listed)).values }
 {
     match listed {
         Listed::CutShort => [1, 0, 0, 0, 0, 0, 0, 0],
@@ -95,7 +96,7 @@ fn listed_words(listed: Listed) -> [u64; 8]
             exchange,
             count,
         } => addressed(8, addresses, exchange as u64, count as u64),
-        Listed::Refused(addresses, number) => addressed(9, addresses, number as u64, 0),
+        Listed::Refused(addresses, refusal) => addressed(9, addresses, refusal.number() as u64, 0),
         Listed::ShortPacket {
             addresses,
             protocol,

@@ -3,13 +3,12 @@
 use Rattle.std.specs.Prelude.{ℕ, List, [], ◌∷◌, get_or}
 use Rattle.wire_read.specs.Answer.{Answer}
 use Rattle.sequence_record.specs.declared.Receive.{Receive}
-use Rattle.sequence_record.specs.declared.Verdict.{Verdict}
-use Rattle.sequence_record.specs.declared.Judged.{Judged}
+use Rattle.sequence_record.specs.Verdict.{Verdict, Judged}
 use Rattle.sequence_record.specs.declared.LossLine.{LossLine}
 use Rattle.sequence_record.specs.Receive.{verdict_answer}
 use Rattle.sequence_table.specs.declared.table.Key.{Key}
-use Rattle.sequence_table.specs.declared.table.Outcome.{Outcome}
-use Rattle.sequence_table.specs.declared.table.Sending.{Sending}
+use Rattle.sequence_table.specs.Outcome.{Outcome}
+use Rattle.sequence_table.specs.Sending.{Sending}
 use Rattle.sequence_table.specs.Table.{Table, outcome_answer, sending_answer}
 use Rattle.sequence_plain.specs.Plain.{PlainList}
 use Rattle.exports_words.specs.Given.{given}

@@ -5,15 +5,18 @@
 ghost use Rattle.std.specs.Prelude.{◌≡◌};
 ghost use Rattle.exports_words.specs.Given.{given};
 ghost use Rattle.sequence_record.specs.Receive.{judged, loss_line, verdict_answer};
+ghost use Rattle.sequence_record.specs.Verdict.{verdict_told};
 ghost use Rattle.sequence_plain.specs.Plain.{plain_step, plain_loss};
 ghost use Rattle.sequence_table.specs.Table.{added, removed, packet, next_to_send, loss, outcome_answer, counted_answer};
-ghost use Rattle.sequence_table.specs.declared.table.Counted.TheVariants.{Line};
+ghost use Rattle.sequence_table.specs.Outcome.{outcome_told};
+ghost use Rattle.sequence_table.specs.Counted.{Line};
 ghost use Rattle.exports_sequence.specs.Records.{receive_of, stepped, plain_given, line_words, key_of, outcome_given, verdict_given, sending_given};
 
+use refusal::Refusal;
 use sequence_plain::PlainList;
-use sequence_record::{LossLine, Receive, Verdict, loss_line, step_lent};
+use sequence_record::{Judged, LossLine, Receive, Verdict, loss_line, step_lent};
 use sequence_table::table;
-use sequence_table::table::{Counted, Key, Outcome, Sending, Table};
+use sequence_table::table::{Key, Table};
 
 fn receive_of(words: &[u64; 2]) -> Receive
     ensures { result ≡ receive_of words.now }
@@ -25,23 +28,23 @@ fn receive_of(words: &[u64; 2]) -> Receive
 }
 
 fn give_verdict(verdict: Verdict, out: &mut [u64; 1]) -> u32
-    ensures { given 1 (verdict_answer verdict) out.old ≡ (result, out.new) }
+    ensures { given 1 (verdict_answer (verdict_told verdict)) out.old ≡ (result, out.new) }
 {
     match verdict {
-        Verdict::Accepted(rise) => {
+        Ok(rise) => {
             *out = [rise];
             0
         }
-        Verdict::Refused(number) => number as u32,
+        Err(refusal) => u32::from(refusal),
     }
 }
 
-fn outcome_number(outcome: Outcome) -> u32
-    ensures { result ≡ (outcome_answer outcome).number }
+fn outcome_number(outcome: Result<(), Refusal>) -> u32
+    ensures { result ≡ (outcome_answer (outcome_told outcome)).number }
 {
     match outcome {
-        Outcome::Done => 0,
-        Outcome::Refused(number) => number as u32,
+        Ok(()) => 0,
+        Err(refusal) => u32::from(refusal),
     }
 }
 
@@ -70,9 +73,10 @@ pub fn tallowbrim_step(
 ) -> u32
     ensures { stepped (judged (receive_of receive.old) number integrity) out.old ≡ ((result, out.new), receive.new) }
 {
-    let j = step_lent(receive_of(receive), number, integrity);
-    let after = j.receive;
-    let verdict = j.verdict;
+    let Judged {
+        receive: after,
+        verdict,
+    } = step_lent(receive_of(receive), number, integrity);
     *receive = [after.highest, after.window];
     give_verdict(verdict, out)
 }
@@ -151,11 +155,11 @@ pub fn tallowbrim_send(
 {
     let sending = table::send(table, key_of(destination, protocol, spi));
     match sending {
-        Sending::Number(number) => {
+        Ok(number) => {
             *out = [number as u64];
             0
         }
-        Sending::Refused(number) => number as u32,
+        Err(refusal) => u32::from(refusal),
     }
 }
 
@@ -171,10 +175,10 @@ pub fn tallowbrim_loss(
 {
     let counted = table::loss(table, key_of(destination, protocol, spi));
     match counted {
-        Counted::Line(line) => {
+        Ok(line) => {
             *out = line_words(line);
             0
         }
-        Counted::Refused(number) => number as u32,
+        Err(refusal) => u32::from(refusal),
     }
 }

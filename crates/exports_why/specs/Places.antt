@@ -9,8 +9,8 @@ use Rattle.sa_items.specs.Items.{proposal, transform}
 use Rattle.sa_sets.specs.Sets.{set}
 use Rattle.policy_choice.specs.Choice.{sa_from}
 use Rattle.policy_why.specs.Why.{message_offer, is_place}
-use Rattle.policy_why.specs.declared.Offer.{Offer}
-use Rattle.policy_why.specs.declared.Offer.TheVariants.{Refused, Readable}
+use Rattle.policy_why.specs.Offer.{Offer}
+use Rattle.policy_why.specs.Offer.{Refused, Readable}
 use Rattle.policy_why.specs.declared.Places.{Places}
 
 -- the bytes at places of an SA payload's body; the line of the places says nothing here

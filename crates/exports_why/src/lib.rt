@@ -1,25 +1,27 @@
 // What other languages call to say why nothing was chosen: the cause at places, and what stands there.
 #![tactic(auto)]
 
-ghost use Rattle.std.specs.Prelude.{◌∷◌, ◌≡◌};
+ghost use Rattle.std.specs.Prelude.{◌∷◌, ◌≡◌, Ok};
 ghost use Rattle.exports_words.specs.Given.{words, given};
 ghost use Rattle.policy_cause.specs.Causes.{cause_values};
-ghost use Rattle.policy_why.specs.Why.{why, why_answer};
+ghost use Rattle.policy_why.specs.Why.{why, why_told, why_answer};
 ghost use Rattle.exports_why.specs.Places.{found_values, place_values, place_answer};
 
 use policy_cause::Cause;
 use policy_choice::choose::sa_of;
-use policy_why::{Offer, Places, Why, cause_at, is_place, message_offer};
+use policy_why::{Places, Why, cause_at, is_place, message_offer};
 use sa_fields::{proposal_number, protocol, transform_number};
 use sa_items::{proposal, transform};
 use sa_sets::set;
 
 // A transform's cause, behind the 3 that says that there is one.
-fn cause_words(cause: Cause) -> [u64; 5]
+fn cause_words(cause: Option<Cause>) -> [u64; 5]
     ensures { result ≡ words 5 (3 ∷ cause_values cause) }
 {
+    let Some(cause) = cause else {
+        return [3, 1, 0, 0, 0];
+    };
     match cause {
-        Cause::Suits => [3, 1, 0, 0, 0],
         Cause::Id { found, wanted } => [3, 2, found as u64, wanted as u64, 0],
         Cause::Missing(attributetype) => [3, 3, attributetype as u64, 0, 0],
         Cause::Value {
@@ -33,6 +35,16 @@ fn cause_words(cause: Cause) -> [u64; 5]
         } => [3, 5, attributetype as u64, found as u64, 0],
         Cause::Seconds { found, longest } => [3, 6, found as u64, longest as u64, 0],
         Cause::Kilobytes => [3, 7, 0, 0, 0],
+    }
+}
+
+fn why_words(said: Why) -> [u64; 5]
+    ensures { result ≡ words 5 (why_answer (why_told (Ok said))).values }
+{
+    match said {
+        Why::NoSuchPlace => [1, 0, 0, 0, 0],
+        Why::Protocols => [2, 0, 0, 0, 0],
+        Why::Transform(cause) => cause_words(cause),
     }
 }
 
@@ -54,19 +66,10 @@ pub fn tallowbrim_cause(
         proposal,
         transform,
     };
-    let answer = cause_at(book, m, at);
-    match answer {
-        Why::Refused(number) => number as u32,
-        Why::NoSuchPlace => {
-            *out = [1, 0, 0, 0, 0];
-            0
-        }
-        Why::Protocols => {
-            *out = [2, 0, 0, 0, 0];
-            0
-        }
-        Why::Transform(cause) => {
-            *out = cause_words(cause);
+    match cause_at(book, m, at) {
+        Err(refusal) => u32::from(refusal),
+        Ok(said) => {
+            *out = why_words(said);
             0
         }
     }
@@ -97,17 +100,16 @@ fn place_words(body: &[u8], at: Places) -> [u64; 4]
 pub fn tallowbrim_place(m: &[u8], set: u8, proposal: u8, transform: u8, out: &mut [u64; 4]) -> u32
     ensures { given 4 (place_answer m.now (record { set = set; line = 0; proposal = proposal; transform = transform })) out.old ≡ (result, out.new) }
 {
-    let offer = message_offer(m);
-    match offer {
-        Offer::Refused(number) => number as u32,
-        Offer::Readable { exchange: _, count } => {
+    match message_offer(m) {
+        Err(refusal) => u32::from(refusal),
+        Ok(offer) => {
             let at = Places {
                 set,
                 line: 0,
                 proposal,
                 transform,
             };
-            *out = place_words(sa_of(count, m), at);
+            *out = place_words(sa_of(offer.count, m), at);
             0
         }
     }

@@ -1,10 +1,12 @@
-// The body of an identification payload: type, protocol, port, data.
+// The body of an identification payload: type, protocol, port, data. Exchange and type are numbers, since every function answers for any.
 #![tactic(auto)]
 
 ghost use Rattle.std.specs.Prelude.{◌≡◌};
+ghost use Rattle.refusal.specs.Numbers.{coded};
 ghost use Rattle.identity.specs.Identity.{one_to255, main_data, quick_data, port_zero, lawful, identity_code};
 
 use der::{is_element, is_name};
+use refusal::Refusal;
 use wire_read::{after, be16, byte};
 
 fn one_to_255(n: usize) -> bool
@@ -61,12 +63,12 @@ fn lawful(exchange: u8, s: &[u8]) -> bool
 }
 
 // 0 where the body is a lawful identity in the exchange, else 18.
-pub fn identity_code(exchange: u8, s: &[u8]) -> u16
-    ensures { result ≡ identity_code exchange s.now }
+pub fn identity_code(exchange: u8, s: &[u8]) -> Result<(), Refusal>
+    ensures { coded result ≡ identity_code exchange s.now }
 {
     if (4 <= s.len()) & lawful(exchange, s) {
-        0
+        Ok(())
     } else {
-        18
+        Err(Refusal::InvalidIdInformation)
     }
 }

@@ -1,9 +1,9 @@
 // What is said of a reply that is not lawful: what differs first and, with a book, what that chooses.
 use crate::names;
-use message_chain::Message;
 use policy_choice::choose::{choose, sa_body};
 use policy_choice::{Choice, Transforms};
 use policy_lawful::{Difference, first_difference};
+use refusal::Refusal;
 use sa_fields::{ProposalNumber, TransformNumber, proposal_number, protocol};
 use sa_items::proposal;
 use sa_sets::{set, set_numbered};
@@ -12,36 +12,31 @@ use std::io::Write;
 
 pub(crate) fn tell(
     out: &mut impl Write,
-    booked: bool,
-    book: &[u8],
+    book: Option<&[u8]>,
     offer: &[u8],
     reply: &[u8],
 ) -> io::Result<()> {
-    let found = first_difference(booked, book, offer, reply);
-    match found {
-        Difference::OfferRefused(_) => unread(out, "offer", offer),
-        Difference::BookRefused(_) => write!(out, "book: cannot be read"),
-        Difference::ReplyRefused(_) => unread(out, "reply", reply),
-        _ => {
+    match first_difference(book, offer, reply) {
+        None => Ok(()),
+        Some(Difference::OfferRefused(_)) => unread(out, "offer", offer),
+        Some(Difference::BookRefused(_)) => write!(out, "book: cannot be read"),
+        Some(Difference::ReplyRefused(_)) => unread(out, "reply", reply),
+        Some(found) => {
             write!(out, "reply: ")?;
             of_set(out, found, sa_body(offer), set(0, sa_body(reply)))?;
-            if booked {
-                chosen(out, choose(book, offer))?;
+            match book {
+                None => Ok(()),
+                Some(book) => chosen(out, choose(book, offer)),
             }
-            Ok(())
         }
     }
 }
 
 // A message that reads is refused only where it has no SA payload.
 fn unread(out: &mut impl Write, name: &str, m: &[u8]) -> io::Result<()> {
-    let read = message_chain::read(m);
-    match read {
-        Message::Refused(_) => write!(out, "{name}: cannot be read"),
-        Message::Read {
-            exchange: _,
-            count: _,
-        } => write!(out, "{name}: has no SA payload"),
+    match message_chain::read(m) {
+        Err(_) => write!(out, "{name}: cannot be read"),
+        Ok(_) => write!(out, "{name}: has no SA payload"),
     }
 }
 
@@ -149,14 +144,14 @@ fn named_transform(
 }
 
 // The offer reads and the book is lawful, so that a refused choice is one of nothing.
-fn chosen(out: &mut impl Write, choice: Choice) -> io::Result<()> {
+fn chosen(out: &mut impl Write, choice: Result<Choice, Refusal>) -> io::Result<()> {
     write!(out, "; the book chooses ")?;
     match choice {
-        Choice::Refused(_) => write!(out, "nothing"),
-        Choice::Chosen(number, line, transforms) => {
-            names::set(out, number)?;
-            write!(out, " line {}", line.0)?;
-            numbers(out, transforms)
+        Err(_) => write!(out, "nothing"),
+        Ok(choice) => {
+            names::set(out, choice.set)?;
+            write!(out, " line {}", choice.line.0)?;
+            numbers(out, choice.transforms)
         }
     }
 }

@@ -5,8 +5,8 @@
 mod difference;
 mod names;
 
-use bench_words::number::{Number, decimal};
-use policy_lawful::{Lawfulness, reply_lawful};
+use bench_words::number::decimal;
+use policy_lawful::reply_lawful;
 use std::env::FillError;
 use std::io;
 use std::io::{Read, Write};
@@ -21,8 +21,7 @@ const LONGEST: u64 = 16469;
 struct Sizes {
     offer: usize,
     reply: usize,
-    book: usize,
-    booked: bool,
+    book: Option<usize>,
 }
 
 fn main(rt: HostRuntime) -> io::Result<()> {
@@ -34,56 +33,38 @@ fn main(rt: HostRuntime) -> io::Result<()> {
 // The arguments say it. A third stands for a book, whatever it is.
 fn sizes_given(rt: &impl Env) -> Sizes {
     Sizes {
-        offer: size_given(rt, 1),
-        reply: size_given(rt, 2),
+        offer: size_given(rt, 1).unwrap_or(0),
+        reply: size_given(rt, 2).unwrap_or(0),
         book: size_given(rt, 3),
-        booked: is_given(rt, 3),
     }
 }
 
-fn is_given(rt: &impl Env, place: usize) -> bool {
-    match rt.arg(place, &mut [0u8; 10]) {
-        Err(FillError::NotPresent) => false,
-        _ => true,
-    }
-}
-
-// An argument that is missing, no number in decimal or none of 32 bits leaves no bytes.
-fn size_given(rt: &impl Env, place: usize) -> usize {
+// Nothing where the argument is missing. One that is no number in decimal or none of 32 bits leaves no bytes.
+fn size_given(rt: &impl Env, place: usize) -> Option<usize> {
     let mut word = [0u8; 10];
-    let length = rt.arg(place, &mut word).unwrap_or(0);
-    let size = decimal(front(&word, length), u32::MAX);
-    match size {
-        Number::Is(n) => n as usize,
-        Number::Wrong => 0,
+    match rt.arg(place, &mut word) {
+        Ok(length) => Some(decimal(front(&word, length), u32::MAX).unwrap_or(0) as usize),
+        Err(FillError::TooLong) => Some(0),
+        Err(FillError::NotPresent) => None,
     }
 }
 
 fn apart(out: &mut impl Write, s: &[u8], sizes: Sizes) -> io::Result<()> {
     let behind = after(s, sizes.offer);
-    let book = front(after(behind, sizes.reply), sizes.book);
-    judge(
-        out,
-        sizes.booked,
-        book,
-        front(s, sizes.offer),
-        front(behind, sizes.reply),
-    )
+    let last = after(behind, sizes.reply);
+    let book = match sizes.book {
+        Some(size) => Some(front(last, size)),
+        None => None,
+    };
+    judge(out, book, front(s, sizes.offer), front(behind, sizes.reply))
 }
 
-fn judge(
-    out: &mut impl Write,
-    booked: bool,
-    book: &[u8],
-    offer: &[u8],
-    reply: &[u8],
-) -> io::Result<()> {
-    let said = reply_lawful(booked, book, offer, reply);
-    match said {
-        Lawfulness::Lawful => writeln!(out, "lawful"),
-        Lawfulness::Refused(number) => {
-            writeln!(out, "refused {number}")?;
-            difference::tell(out, booked, book, offer, reply)?;
+fn judge(out: &mut impl Write, book: Option<&[u8]>, offer: &[u8], reply: &[u8]) -> io::Result<()> {
+    match reply_lawful(book, offer, reply) {
+        Ok(()) => writeln!(out, "lawful"),
+        Err(refusal) => {
+            writeln!(out, "refused {refusal}")?;
+            difference::tell(out, book, offer, reply)?;
             writeln!(out)
         }
     }

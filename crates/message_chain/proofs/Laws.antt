@@ -21,7 +21,7 @@ use Rattle.message_payload.proofs.Laws.{payload-within, payload-offer, sa_payloa
 use Rattle.message_payload.specs.Payloads.{body_of, payload_code, rest_code}
 use Rattle.message_chain.specs.Message.{Reading, refused, payloads, in_front, chain, reading, nth, exchange_and_count, message, walk}
 use Rattle.message_chain.specs.declared.Payload.{Payload}
-use Rattle.message_chain.specs.declared.Message.TheVariants.{Refused, Read}
+use Rattle.message_chain.specs.Message.{Refused, Read}
 
 -- ---- the walk
 

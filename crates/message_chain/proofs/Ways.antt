@@ -15,8 +15,8 @@ use Rattle.message_payload.specs.Payloads.{payload_code, rest_code}
 use Rattle.message_chain.proofs.Laws.{count-more}
 use Rattle.message_chain.specs.Message.{Reading, chain, reading, exchange_and_count, message, walk, payload_at}
 use Rattle.message_chain.specs.declared.Payload.{Payload}
-use Rattle.message_chain.specs.declared.Message.{Message}
-use Rattle.message_chain.specs.declared.Message.TheVariants.{Refused, Read}
+use Rattle.message_chain.specs.Message.{Message}
+use Rattle.message_chain.specs.Message.{Refused, Read}
 
 -- ---- the chain
 

@@ -1,5 +1,5 @@
 -- The reading of a message, document 01: "The reading gives exchange, count, and type, start and length of each payload."
-use Rattle.std.specs.Prelude.{ℕ, zero, suc, ◌+◌, List, [], ◌∷◌, Bool, false, not, ◌||◌, length, get_or, drop, eqb}
+use Rattle.std.specs.Prelude.{ℕ, zero, suc, Result, Ok, Err, ◌+◌, List, [], ◌∷◌, Bool, false, not, ◌||◌, length, get_or, drop, eqb}
 use Rattle.wire_read.specs.Wire.{Bytes, next_field, length_field, next_at, length_at}
 use Rattle.wire_read.specs.Tests.{if◌then◌otherwise◌}
 use Rattle.wire_read.specs.Answer.{Answer, done}
@@ -7,8 +7,18 @@ use Rattle.wire_read.specs.Answer as Answers
 use Rattle.message_header.specs.Header.{exchange_of, flags_of, first_payload, header_code}
 use Rattle.message_payload.specs.Payloads.{payload_code, rest_code}
 use Rattle.message_chain.specs.declared.Payload.{Payload}
-use Rattle.message_chain.specs.declared.Message.{Message}
-use Rattle.message_chain.specs.declared.Message.TheVariants.{Refused, Read}
+use Rattle.message_chain.specs.declared.Message.{Message as Found}
+use Rattle.refusal.specs.declared.Refusal.{Refusal}
+use Rattle.refusal.specs.Numbers.{number}
+
+-- what a message is read as, and what the code says so by
+pub data Message : Type 0 where
+  Refused : (number : ℕ) → Message
+  Read : (exchange count : ℕ) → Message
+
+abbrev pub message_told : (answer : Result Found Refusal) → Message
+message_told (Ok found) = Read found.exchange found.count
+message_told (Err refusal) = Refused (number refusal)
 
 -- a message is refused, or its payloads are found
 pub data Reading : Type 0 where

@@ -2,21 +2,22 @@
 #![tactic(auto)]
 
 ghost use Rattle.std.specs.Prelude.{◌≡◌, ◌-◌, ◌≤◌};
-ghost use Rattle.message_chain.specs.Message.{chain, exchange_and_count, message, payload_at};
+ghost use Rattle.message_chain.specs.Message.{message_told, chain, exchange_and_count, message, payload_at};
 
 use message_header::header_code;
 use message_payload::{payload_code, rest_code};
+use refusal::Refusal;
 use wire_read::{after, be16, byte};
 
-// What a message is read as.
-#[derive(Clone, Copy)]
-pub enum Message {
-    Refused(u16),
-    Read { exchange: u8, count: u8 },
+// What a message that reads is: its exchange, and how many payloads it has.
+#[derive(Clone, Copy, Debug, PartialEq, Eq)]
+pub struct Message {
+    pub exchange: u8,
+    pub count: u8,
 }
 
 // Where a payload lies in its message, and its type.
-#[derive(Clone, Copy)]
+#[derive(Clone, Copy, Debug, PartialEq, Eq)]
 pub struct Payload {
     pub payloadtype: u8,
     pub start: usize,
@@ -25,17 +26,21 @@ pub struct Payload {
 
 // The payloads from here on, of which so many may come. The first is of that type; offered says whether an SA payload came
 // before.
-fn chain(left: u8, exchange: u8, flags: u8, offered: bool, payloadtype: u8, s: &[u8]) -> Message
+fn chain(
+    left: u8,
+    exchange: u8,
+    flags: u8,
+    offered: bool,
+    payloadtype: u8,
+    s: &[u8],
+) -> Result<Message, Refusal>
     requires { left ≤ 32 }
-    ensures { result ≡ exchange_and_count exchange (32 - left) (chain left exchange flags offered payloadtype 0 s.now) }
+    ensures { message_told result ≡ exchange_and_count exchange (32 - left) (chain left exchange flags offered payloadtype 0 s.now) }
 {
     if left == 0 {
-        return Message::Refused(16);
+        return Err(Refusal::PayloadMalformed);
     }
-    let code = payload_code(exchange, offered, payloadtype, s);
-    if code != 0 {
-        return Message::Refused(code);
-    }
+    payload_code(exchange, offered, payloadtype, s)?;
     let next = byte(s, 0);
     let n = be16(s, 2) as usize;
     let rest = after(s, n);
@@ -49,24 +54,18 @@ fn chain(left: u8, exchange: u8, flags: u8, offered: bool, payloadtype: u8, s: &
             rest,
         );
     }
-    let code = rest_code(flags, rest);
-    if code != 0 {
-        return Message::Refused(code);
-    }
-    Message::Read {
+    rest_code(flags, rest)?;
+    Ok(Message {
         exchange,
         count: 33 - left,
-    }
+    })
 }
 
 // Reads a message: 0 payloads are never read, so count is 1 to 32.
-pub fn read(m: &[u8]) -> Message
-    ensures { result ≡ message m.now }
+pub fn read(m: &[u8]) -> Result<Message, Refusal>
+    ensures { message_told result ≡ message m.now }
 {
-    let code = header_code(m);
-    if code != 0 {
-        return Message::Refused(code);
-    }
+    header_code(m)?;
     chain(
         32,
         byte(m, 18),
@@ -83,11 +82,9 @@ pub fn payload_at(m: &[u8], k: u8) -> Payload
 {
     let mut payloadtype = byte(m, 16);
     let mut start: usize = 28;
-    let mut i = 0;
-    while i < k {
+    for _passed in 0..k {
         payloadtype = byte(m, start);
         start += be16(m, start + 2) as usize;
-        i += 1;
     }
     let length = be16(m, start + 2) as usize;
     Payload {

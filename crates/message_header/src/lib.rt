@@ -2,8 +2,10 @@
 #![tactic(auto)]
 
 ghost use Rattle.std.specs.Prelude.{◌≡◌};
+ghost use Rattle.refusal.specs.Numbers.{coded};
 ghost use Rattle.message_header.specs.Header.{length_wrong, major_wrong, minor_wrong, exchange_refused, exchange_unknown, flags_wrong, cookie_zero, message_id_wrong, flagged_length_wrong, no_payload, header_code};
 
+use refusal::Refusal;
 use wire_read::{after, all_zero, be32, byte, front};
 
 fn length_wrong(m: &[u8]) -> bool
@@ -72,35 +74,39 @@ fn no_payload(m: &[u8]) -> bool
 }
 
 // 0 where the header is lawful, else the refusal.
-pub fn header_code(m: &[u8]) -> u16
-    ensures { result ≡ header_code m.now }
+pub fn header_code(m: &[u8]) -> Result<(), Refusal>
+    ensures { coded result ≡ header_code m.now }
 {
     if length_wrong(m) {
-        return 30;
+        return Err(Refusal::UnequalPayloadLengths);
     }
     if major_wrong(m) {
-        return 5;
+        return Err(Refusal::InvalidMajorVersion);
     }
     if minor_wrong(m) {
-        return 6;
+        return Err(Refusal::InvalidMinorVersion);
     }
     if exchange_refused(m) {
-        return 29;
+        return Err(Refusal::UnsupportedExchangeType);
     }
     if exchange_unknown(m) {
-        return 7;
+        return Err(Refusal::InvalidExchangeType);
     }
     if flags_wrong(m) {
-        return 8;
+        return Err(Refusal::InvalidFlags);
     }
     if cookie_zero(m) {
-        return 4;
+        return Err(Refusal::InvalidCookie);
     }
     if message_id_wrong(m) {
-        return 9;
+        return Err(Refusal::InvalidMessageId);
     }
     if flagged_length_wrong(m) {
-        return 30;
+        return Err(Refusal::UnequalPayloadLengths);
     }
-    if no_payload(m) { 16 } else { 0 }
+    if no_payload(m) {
+        Err(Refusal::PayloadMalformed)
+    } else {
+        Ok(())
+    }
 }

@@ -1,10 +1,13 @@
-// One payload, its body, and what may follow the last. A slice begins at the payload.
+// One payload, its body, and what may follow the last. A slice begins at the payload. Exchange and type are numbers, since every function
+// answers for any.
 #![tactic(auto)]
 
 ghost use Rattle.std.specs.Prelude.{◌≡◌};
+ghost use Rattle.refusal.specs.Numbers.{coded};
 ghost use Rattle.message_payload.specs.Payloads.{type_wrong, length_out, hash_code, nonce_code, certificate_code, body_code, body_of, payload_code, rest_code};
 
 use identity::identity_code;
+use refusal::Refusal;
 use sa_proposals::offer_code;
 use wire_read::{after, all_zero, be16, byte, front};
 
@@ -26,43 +29,47 @@ fn length_out(s: &[u8]) -> bool
     (n < 4) | (s.len() < n)
 }
 
-fn hash_code(body: &[u8]) -> u16
-    ensures { result ≡ hash_code body.now }
+fn hash_code(body: &[u8]) -> Result<(), Refusal>
+    ensures { coded result ≡ hash_code body.now }
 {
-    if body.len() == 32 { 0 } else { 16 }
-}
-
-fn nonce_code(body: &[u8]) -> u16
-    ensures { result ≡ nonce_code body.now }
-{
-    if (8 <= body.len()) & (body.len() <= 256) {
-        0
+    if body.len() == 32 {
+        Ok(())
     } else {
-        16
+        Err(Refusal::PayloadMalformed)
     }
 }
 
-fn certificate_code(body: &[u8]) -> u16
-    ensures { result ≡ certificate_code body.now }
+fn nonce_code(body: &[u8]) -> Result<(), Refusal>
+    ensures { coded result ≡ nonce_code body.now }
+{
+    if (8 <= body.len()) & (body.len() <= 256) {
+        Ok(())
+    } else {
+        Err(Refusal::PayloadMalformed)
+    }
+}
+
+fn certificate_code(body: &[u8]) -> Result<(), Refusal>
+    ensures { coded result ≡ certificate_code body.now }
 {
     if body.len() == 0 {
-        return 16;
+        return Err(Refusal::PayloadMalformed);
     }
     let encoding = byte(body, 0);
     if (encoding == 4) | (encoding == 5) {
-        0
+        Ok(())
     } else {
-        19
+        Err(Refusal::InvalidCertEncoding)
     }
 }
 
-fn body_code(exchange: u8, offered: bool, payloadtype: u8, body: &[u8]) -> u16
-    ensures { result ≡ body_code exchange offered payloadtype body.now }
+fn body_code(exchange: u8, offered: bool, payloadtype: u8, body: &[u8]) -> Result<(), Refusal>
+    ensures { coded result ≡ body_code exchange offered payloadtype body.now }
 {
     match payloadtype {
         1 => {
             if offered {
-                15
+                Err(Refusal::BadProposalSyntax)
             } else {
                 offer_code(exchange, body)
             }
@@ -71,7 +78,7 @@ fn body_code(exchange: u8, offered: bool, payloadtype: u8, body: &[u8]) -> u16
         6 => certificate_code(body),
         8 => hash_code(body),
         10 => nonce_code(body),
-        _ => 0,
+        _ => Ok(()),
     }
 }
 
@@ -83,33 +90,37 @@ fn body_of(s: &[u8]) -> &[u8]
 }
 
 // 0 where the payload is lawful, else the refusal; offered says whether an SA payload came before.
-pub fn payload_code(exchange: u8, offered: bool, payloadtype: u8, s: &[u8]) -> u16
-    ensures { result ≡ payload_code exchange offered payloadtype s.now }
+pub fn payload_code(exchange: u8, offered: bool, payloadtype: u8, s: &[u8]) -> Result<(), Refusal>
+    ensures { coded result ≡ payload_code exchange offered payloadtype s.now }
 {
     if type_wrong(exchange, payloadtype) {
-        return 1;
+        return Err(Refusal::InvalidPayloadType);
     }
     if s.len() < 4 {
-        return 16;
+        return Err(Refusal::PayloadMalformed);
     }
     if byte(s, 1) != 0 {
-        return 16;
+        return Err(Refusal::PayloadMalformed);
     }
     if length_out(s) {
-        return 30;
+        return Err(Refusal::UnequalPayloadLengths);
     }
     body_code(exchange, offered, payloadtype, body_of(s))
 }
 
 // What follows the last payload: nothing, or with flag 1 up to 15 zero bytes.
-pub fn rest_code(flags: u8, rest: &[u8]) -> u16
-    ensures { result ≡ rest_code flags rest.now }
+pub fn rest_code(flags: u8, rest: &[u8]) -> Result<(), Refusal>
+    ensures { coded result ≡ rest_code flags rest.now }
 {
     if rest.len() == 0 {
-        return 0;
+        return Ok(());
     }
     if (flags == 0) | (15 < rest.len()) {
-        return 30;
+        return Err(Refusal::UnequalPayloadLengths);
     }
-    if all_zero(rest) { 0 } else { 16 }
+    if all_zero(rest) {
+        Ok(())
+    } else {
+        Err(Refusal::PayloadMalformed)
+    }
 }

@@ -8,7 +8,7 @@ use lib.ListN.{length, get_or}
 use lib.Dec.{eqb, leb}
 use Rattle.policy_book.specs.Book.{main_line_lawful, quick_line_lawful, main_lines_lawful, quick_lines_lawful, book_in_front, book_read}
 use Rattle.policy_lines.specs.Lines.{book_size, quick_count, quick_protocols, quick_mode, quick_seconds}
-use Rattle.policy_book.specs.declared.Book.TheVariants.{Refused, Lawful}
+use Rattle.policy_book.specs.Book.{Refused, Lawful}
 
 pub quick-fields : (i : ℕ) (book : List ℕ) (protocols mode seconds : ℕ) → protocols ≡ quick_protocols i book → mode ≡ quick_mode i book →
     seconds ≡ quick_seconds i book →

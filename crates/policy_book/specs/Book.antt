@@ -1,11 +1,21 @@
 -- The policy book, document 01, "Policy book and choice": a count byte, main lines, a count byte, quick lines.
-use Rattle.std.specs.Prelude.{ℕ, zero, suc, [], ◌∷◌, Bool, true, ◌&&◌, length, leb, eqb}
+use Rattle.std.specs.Prelude.{ℕ, zero, suc, Result, Ok, Err, [], ◌∷◌, Bool, true, ◌&&◌, length, leb, eqb}
 use Rattle.wire_read.specs.Wire.{Bytes}
 use Rattle.wire_read.specs.Tests.{if◌then◌otherwise◌}
 use Rattle.wire_read.specs.Answer.{Answer, done, refused}
 use Rattle.policy_lines.specs.Lines.{main_count, quick_count, book_size, main_seconds, quick_protocols, quick_mode, quick_seconds}
-use Rattle.policy_book.specs.declared.Book.{Book}
-use Rattle.policy_book.specs.declared.Book.TheVariants.{Refused, Lawful}
+use Rattle.policy_book.specs.declared.Book.{Book as Found}
+use Rattle.refusal.specs.declared.Refusal.{Refusal}
+use Rattle.refusal.specs.Numbers.{number}
+
+-- what a book is read as, and what the code says so by
+pub data Book : Type 0 where
+  Refused : (number : ℕ) → Book
+  Lawful : (main quick : ℕ) → Book
+
+abbrev pub book_told : (answer : Result Found Refusal) → Book
+book_told (Ok found) = Lawful found.main found.quick
+book_told (Err refusal) = Refused (number refusal)
 
 -- "four-byte longest seconds, 1 to 86,400"
 unfoldable pub main_line_lawful : (i : ℕ) (book : Bytes) → Bool

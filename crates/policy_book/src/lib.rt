@@ -2,18 +2,19 @@
 #![tactic(auto)]
 
 ghost use Rattle.std.specs.Prelude.{◌≡◌};
-ghost use Rattle.policy_book.specs.Book.{main_line_lawful, quick_line_lawful, main_lines_lawful, quick_lines_lawful, book_in_front, book_read};
+ghost use Rattle.policy_book.specs.Book.{main_line_lawful, quick_line_lawful, main_lines_lawful, quick_lines_lawful, book_in_front, book_told, book_read};
 
 use policy_lines::{
     book_size, main_seconds, quick_count, quick_mode, quick_protocols, quick_seconds,
 };
+use refusal::Refusal;
 use wire_read::byte;
 
-// What a book is read as: how many lines of each kind it has.
-#[derive(Clone, Copy)]
-pub enum Book {
-    Refused(u16),
-    Lawful { main: u8, quick: u8 },
+// What a lawful book is: how many lines of each kind it has.
+#[derive(Clone, Copy, Debug, PartialEq, Eq)]
+pub struct Book {
+    pub main: u8,
+    pub quick: u8,
 }
 
 fn main_line_lawful(i: u8, book: &[u8]) -> bool
@@ -70,15 +71,15 @@ pub fn book_in_front(s: &[u8]) -> bool
 }
 
 // Reads a book: its bytes and nothing else.
-pub fn read_book(book: &[u8]) -> Book
-    ensures { result ≡ book_read book.now }
+pub fn read_book(book: &[u8]) -> Result<Book, Refusal>
+    ensures { book_told result ≡ book_read book.now }
 {
     if book_in_front(book) & (book_size(book) as usize == book.len()) {
-        Book::Lawful {
+        Ok(Book {
             main: byte(book, 0),
             quick: quick_count(book),
-        }
+        })
     } else {
-        Book::Refused(8193)
+        Err(Refusal::BookUnlawful)
     }
 }

@@ -1,7 +1,7 @@
 -- Why a transform does not suit a line, and why a set does not, document 02, "Say why nothing was chosen": "for every set and line either
 -- "suits" or the first failing condition: protocols, then per proposal and transform the ID, a missing attribute, a wrong value, a surplus
 -- attribute, a lifetime out of bounds". By the tests of Suits.antt, so that the two cannot part.
-use Rattle.std.specs.Prelude.{ℕ, zero, suc, ◌+◌, List, [], ◌∷◌, Bool, false, not, ◌||◌, ◌&&◌, length, take, ltb, leb, eqb}
+use Rattle.std.specs.Prelude.{ℕ, zero, suc, Option, None, Some, ◌+◌, ◌≡◌, List, [], ◌∷◌, Bool, false, not, ◌||◌, ◌&&◌, length, take, ltb, leb, eqb}
 use Rattle.wire_read.specs.Wire.{Bytes}
 use Rattle.wire_read.specs.Tests.{if◌then◌otherwise◌}
 use Rattle.wire_read.specs.Answer.{Answer, done}
@@ -11,7 +11,7 @@ use Rattle.sa_fields.specs.Fields.{transform_id, attributes_of}
 use Rattle.policy_suits.specs.Suits.{present, value_is, seconds_of, seconds_within, kilobytes_some, nothing_surplus, quick_id, protocols_suit, set_suits}
 use Rattle.policy_cause.specs.declared.Wish.{Wish}
 use Rattle.policy_cause.specs.declared.Cause.{Cause}
-use Rattle.policy_cause.specs.declared.Cause.TheVariants.{Suits, Id, Missing, Value, Surplus, Seconds, Kilobytes}
+use Rattle.policy_cause.specs.declared.Cause.TheVariants.{Id, Missing, Value, Surplus, Seconds, Kilobytes}
 use Rattle.policy_cause.specs.declared.PairCause.{PairCause}
 use Rattle.policy_cause.specs.declared.PairCause.TheVariants as pairs
 
@@ -49,42 +49,42 @@ wanted_count w = length (wanted w) + 1
 
 -- "the first failing condition"
 infixl 20 ◌or_else◌
-unfoldable pub ◌or_else◌ : (first next : Cause) → Cause
-Suits or_else next = next
-Id found wanted or_else next = Id found wanted
-Missing attributetype or_else next = Missing attributetype
-Value attributetype found wanted or_else next = Value attributetype found wanted
-Surplus attributetype found or_else next = Surplus attributetype found
-Seconds found longest or_else next = Seconds found longest
-Kilobytes or_else next = Kilobytes
+unfoldable pub ◌or_else◌ : {Cause : Type 0} (first next : Option Cause) → Option Cause
+None or_else next = next
+Some cause or_else next = Some cause
 
 -- the first of a list, each with its own
-unfoldable pub first_cause : (cause : ℕ × ℕ → Cause) (wanted : List (ℕ × ℕ)) → Cause
-first_cause cause [] = Suits
+unfoldable pub first_cause : (cause : ℕ × ℕ → Option Cause) (wanted : List (ℕ × ℕ)) → Option Cause
+first_cause cause [] = None
 first_cause cause (a ∷ wanted) = cause a or_else first_cause cause wanted
 
+-- what is called with a type and a value answers with the cause that is told of them
+abbrev pub Tells : (told : ℕ × ℕ → Option Cause) (answers : (attributetype value : ℕ) (cause : Option Cause) → Type 0) → Type 0
+Tells told answers =
+    (attributetype value : ℕ) (cause : Option Cause) → answers attributetype value cause → cause ≡ told (attributetype, value)
+
 -- "the ID"
-unfoldable pub id_cause : (w : Wish) (t : Bytes) → Cause
-id_cause w t = if eqb (transform_id t) w.id then Suits otherwise Id (transform_id t) w.id
+unfoldable pub id_cause : (w : Wish) (t : Bytes) → Option Cause
+id_cause w t = if eqb (transform_id t) w.id then None otherwise Some (Id (transform_id t) w.id)
 
 -- "a missing attribute": it is not there; of the life type, no pair with seconds is
 unfoldable pub is_there : (lifetype attributetype : ℕ) (attributes : Bytes) → Bool
 is_there lifetype attributetype attributes =
     if eqb attributetype lifetype then leb 4 (length (seconds_of lifetype attributes)) otherwise present attributetype attributes
 
-unfoldable pub missing_one : (lifetype attributetype : ℕ) (attributes : Bytes) → Cause
-missing_one lifetype attributetype attributes = if is_there lifetype attributetype attributes then Suits otherwise Missing attributetype
+unfoldable pub missing_one : (lifetype attributetype : ℕ) (attributes : Bytes) → Option Cause
+missing_one lifetype attributetype attributes = if is_there lifetype attributetype attributes then None otherwise Some (Missing attributetype)
 
-unfoldable pub missing_cause : (lifetype : ℕ) (wanted : List (ℕ × ℕ)) (attributes : Bytes) → Cause
+unfoldable pub missing_cause : (lifetype : ℕ) (wanted : List (ℕ × ℕ)) (attributes : Bytes) → Option Cause
 missing_cause lifetype wanted attributes = first_cause (λ a. missing_one lifetype a.0 attributes) wanted
 
 -- "a wrong value": it has another; never the life type
-unfoldable pub value_one : (lifetype attributetype wanted : ℕ) (attributes : Bytes) → Cause
+unfoldable pub value_one : (lifetype attributetype wanted : ℕ) (attributes : Bytes) → Option Cause
 value_one lifetype attributetype wanted attributes =
-    if eqb attributetype lifetype || value_is attributetype wanted attributes then Suits
-    otherwise Value attributetype (value (attribute attributetype attributes)) wanted
+    if eqb attributetype lifetype || value_is attributetype wanted attributes then None
+    otherwise Some (Value attributetype (value (attribute attributetype attributes)) wanted)
 
-unfoldable pub value_cause : (lifetype : ℕ) (wanted : List (ℕ × ℕ)) (attributes : Bytes) → Cause
+unfoldable pub value_cause : (lifetype : ℕ) (wanted : List (ℕ × ℕ)) (attributes : Bytes) → Option Cause
 value_cause lifetype wanted attributes = first_cause (λ a. value_one lifetype a.0 a.1 attributes) wanted
 
 -- "a surplus attribute": whether the attribute at the front of s is wanted. Of lifetimes the seconds are and the kilobytes may be there; a
@@ -106,22 +106,22 @@ first_surplus (suc k) w s =
     otherwise if is_wanted w s then first_surplus k w (after_attribute s)
     otherwise take (attribute_size s) s
 
-unfoldable pub surplus_cause : (w : Wish) (attributes : Bytes) → Cause
+unfoldable pub surplus_cause : (w : Wish) (attributes : Bytes) → Option Cause
 surplus_cause w attributes =
-    if nothing_surplus (wanted_count w) w.lifetype attributes then Suits
-    otherwise Surplus (attribute_type (first_surplus 16 w attributes)) (value (first_surplus 16 w attributes))
+    if nothing_surplus (wanted_count w) w.lifetype attributes then None
+    otherwise Some (Surplus (attribute_type (first_surplus 16 w attributes)) (value (first_surplus 16 w attributes)))
 
 -- "a lifetime out of bounds"
-unfoldable pub seconds_cause : (w : Wish) (attributes : Bytes) → Cause
+unfoldable pub seconds_cause : (w : Wish) (attributes : Bytes) → Option Cause
 seconds_cause w attributes =
-    if seconds_within w.lifetype w.longest attributes then Suits
-    otherwise Seconds (value (seconds_of w.lifetype attributes)) w.longest
+    if seconds_within w.lifetype w.longest attributes then None
+    otherwise Some (Seconds (value (seconds_of w.lifetype attributes)) w.longest)
 
-unfoldable pub kilobytes_cause : (w : Wish) (attributes : Bytes) → Cause
-kilobytes_cause w attributes = if kilobytes_some w.lifetype attributes then Suits otherwise Kilobytes
+unfoldable pub kilobytes_cause : (w : Wish) (attributes : Bytes) → Option Cause
+kilobytes_cause w attributes = if kilobytes_some w.lifetype attributes then None otherwise Some Kilobytes
 
 -- of attributes, and of a transform
-unfoldable pub attributes_cause : (w : Wish) (attributes : Bytes) → Cause
+unfoldable pub attributes_cause : (w : Wish) (attributes : Bytes) → Option Cause
 attributes_cause w attributes =
     missing_cause w.lifetype (wanted w) attributes
     or_else value_cause w.lifetype (wanted w) attributes
@@ -129,37 +129,37 @@ attributes_cause w attributes =
     or_else seconds_cause w attributes
     or_else kilobytes_cause w attributes
 
-unfoldable pub wish_cause : (w : Wish) (t : Bytes) → Cause
+unfoldable pub wish_cause : (w : Wish) (t : Bytes) → Option Cause
 wish_cause w t = id_cause w t or_else attributes_cause w (attributes_of t)
 
 -- of a transform of a proposal of this protocol and line i of the exchange's, counted from 0
-unfoldable pub transform_cause : (exchange i : ℕ) (book : Bytes) (protocol : ℕ) (t : Bytes) → Cause
+unfoldable pub transform_cause : (exchange i : ℕ) (book : Bytes) (protocol : ℕ) (t : Bytes) → Option Cause
 transform_cause exchange i book protocol t = wish_cause (wish_of exchange i book protocol) t
 
 -- ---- the cause of a pair
 
 -- "for every set and line either "suits" or the first failing condition: protocols, then per proposal and transform .."
-unfoldable pub pair_cause : (exchange i : ℕ) (book set : Bytes) → PairCause
+unfoldable pub pair_cause : (exchange i : ℕ) (book set : Bytes) → Option PairCause
 pair_cause exchange i book set =
-    if set_suits exchange i book set then pairs.Suits
-    otherwise if protocols_suit exchange i book set then pairs.Transforms
-    otherwise pairs.Protocols
+    if set_suits exchange i book set then None
+    otherwise if protocols_suit exchange i book set then Some pairs.Transforms
+    otherwise Some pairs.Protocols
 
 -- ---- what the answers say, by number and values
 
-unfoldable pub cause_values : (cause : Cause) → List ℕ
-cause_values Suits = 1 ∷ []
-cause_values (Id found wanted) = 2 ∷ found ∷ wanted ∷ []
-cause_values (Missing attributetype) = 3 ∷ attributetype ∷ []
-cause_values (Value attributetype found wanted) = 4 ∷ attributetype ∷ found ∷ wanted ∷ []
-cause_values (Surplus attributetype found) = 5 ∷ attributetype ∷ found ∷ []
-cause_values (Seconds found longest) = 6 ∷ found ∷ longest ∷ []
-cause_values Kilobytes = 7 ∷ []
+unfoldable pub cause_values : (cause : Option Cause) → List ℕ
+cause_values None = 1 ∷ []
+cause_values (Some (Id found wanted)) = 2 ∷ found ∷ wanted ∷ []
+cause_values (Some (Missing attributetype)) = 3 ∷ attributetype ∷ []
+cause_values (Some (Value attributetype found wanted)) = 4 ∷ attributetype ∷ found ∷ wanted ∷ []
+cause_values (Some (Surplus attributetype found)) = 5 ∷ attributetype ∷ found ∷ []
+cause_values (Some (Seconds found longest)) = 6 ∷ found ∷ longest ∷ []
+cause_values (Some Kilobytes) = 7 ∷ []
 
-unfoldable pub cause_answer : (cause : Cause) → Answer
+unfoldable pub cause_answer : (cause : Option Cause) → Answer
 cause_answer cause = done (cause_values cause)
 
-unfoldable pub pair_answer : (cause : PairCause) → Answer
-pair_answer pairs.Suits = done (1 ∷ [])
-pair_answer pairs.Protocols = done (2 ∷ [])
-pair_answer pairs.Transforms = done (3 ∷ [])
+unfoldable pub pair_answer : (cause : Option PairCause) → Answer
+pair_answer None = done (1 ∷ [])
+pair_answer (Some pairs.Protocols) = done (2 ∷ [])
+pair_answer (Some pairs.Transforms) = done (3 ∷ [])

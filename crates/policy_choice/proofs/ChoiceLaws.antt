@@ -22,7 +22,7 @@ use Rattle.message_header.specs.Header.{exchange_of, first_payload}
 use Rattle.message_payload.specs.Payloads.{body_of}
 use Rattle.message_chain.specs.Message.{message, nth, walk, payload_at}
 use Rattle.message_chain.specs.declared.Payload.{Payload}
-use Rattle.message_chain.specs.declared.Message.TheVariants as read
+use Rattle.message_chain.specs.Message as read
 use Rattle.message_chain.proofs.Laws.{reading-found, read_as}
 use Rattle.policy_lines.specs.Lines.{line_at}
 use Rattle.policy_lines.specs.declared.LineNumber.{LineNumber}
@@ -30,10 +30,10 @@ use Rattle.policy_suits.specs.Suits.{lowest}
 use Rattle.policy_suiting.proofs.Laws.{Passes, Passed, suits_passed}
 use Rattle.policy_suiting.proofs.SuitLaws.{chosen_in, taken}
 use Rattle.policy_book.specs.Book.{book_read}
-use Rattle.policy_book.specs.declared.Book.{Book}
-use Rattle.policy_book.specs.declared.Book.TheVariants as books
-use Rattle.policy_choice.specs.declared.Choice.{Choice}
-use Rattle.policy_choice.specs.declared.Choice.TheVariants.{Refused, Chosen}
+use Rattle.policy_book.specs.Book.{Book}
+use Rattle.policy_book.specs.Book as books
+use Rattle.policy_choice.specs.Choice.{Choice}
+use Rattle.policy_choice.specs.Choice.{Refused, Chosen}
 use Rattle.policy_choice.specs.declared.Transforms.{Transforms}
 use Rattle.policy_choice.specs.Choice.{number_of, lowest_number, transforms_of, chosen, choose_from, line_count, body_at, sa_from, message_choice, book_choice, choice}
 use Rattle.policy_choice.proofs.Laws.{Choosing, fourteen, chose, choosing}

@@ -10,8 +10,8 @@ use borrow.Author.Tests.{eq-eqb, ne_eqb, leb-false}
 use Rattle.wire_read.specs.Tests.{if◌then◌otherwise◌}
 use Rattle.wire_read.proofs.Tests.{never}
 use Rattle.message_chain.specs.Message.{message, payload_at}
-use Rattle.message_chain.specs.declared.Message.{Message}
-use Rattle.message_chain.specs.declared.Message.TheVariants as read
+use Rattle.message_chain.specs.Message.{Message}
+use Rattle.message_chain.specs.Message as read
 use Rattle.message_chain.specs.declared.Payload.{Payload}
 use Rattle.sa_sets.specs.Sets.{set, set_count}
 use Rattle.sa_items.specs.Items.{proposal, proposal_count, transform}
@@ -23,15 +23,14 @@ use Rattle.policy_lines.specs.declared.LineNumber.{LineNumber}
 use Rattle.policy_book.specs.Book.{book_in_front, book_read}
 use Rattle.policy_suits.specs.Suits.{lowest, lowest_transform, set_suits}
 use Rattle.policy_suits.proofs.Found.{none_found, lowest-found}
-use Rattle.policy_suits.specs.declared.SuitingTransform.{SuitingTransform}
-use Rattle.policy_suits.specs.declared.SuitingTransform.TheVariants.{None, Lowest}
-use Rattle.policy_choice.specs.Choice.{line_count, line_from, first_line, number_of, lowest_number, transforms_of, chosen, set_from, choose_from, body_at, sa_from, message_refusal, message_choice, book_choice, choice}
-use Rattle.policy_book.specs.declared.Book.{Book}
-use Rattle.policy_book.specs.declared.Book.TheVariants as books
+use Rattle.std.specs.Prelude.{Option, None, Some}
+use Rattle.policy_choice.specs.Choice.{line_count, line_from, first_line, number_of, lowest_number, transforms_of, chosen, set_from, choose_from, body_at, sa_from, message_choice, book_choice, choice}
+use Rattle.policy_book.specs.Book.{Book}
+use Rattle.policy_book.specs.Book as books
 use Rattle.policy_choice.specs.declared.Transforms.{Transforms}
 use Rattle.policy_choice.specs.declared.Transforms.TheVariants.{One, Two}
-use Rattle.policy_choice.specs.declared.Choice.{Choice}
-use Rattle.policy_choice.specs.declared.Choice.TheVariants.{Refused, Chosen}
+use Rattle.policy_choice.specs.Choice.{Choice}
+use Rattle.policy_choice.specs.Choice.{Refused, Chosen}
 
 -- ---- lines
 
@@ -72,7 +71,7 @@ line_first exchange n r book s en er = rw (← en) er
 
 -- ---- transforms
 
-module _ (exchange i : ℕ) (book p : List ℕ) (found : SuitingTransform) (ef : found ≡ lowest_transform exchange i book p) where
+module _ (exchange i : ℕ) (book p : List ℕ) (found : Option TransformNumber) (ef : found ≡ lowest_transform exchange i book p) where
   pub number-none : found ≡ None → (t : List ℕ) (r : TransformNumber) → t ≡ transform 0 p → r ≡ transform_number t → r ≡ lowest_number exchange i book p
   unfolding number_of
   number-none h t r et er =
@@ -80,7 +79,7 @@ module _ (exchange i : ℕ) (book p : List ℕ) (found : SuitingTransform) (ef :
       let first : lowest exchange i book p - 1 ≡ 0 = omega (arith, none) in
       rw (first, ← et) er
 
-  pub number-lowest : (number : TransformNumber) → found ≡ Lowest number → number ≡ lowest_number exchange i book p
+  pub number-lowest : (number : TransformNumber) → found ≡ Some number → number ≡ lowest_number exchange i book p
   unfolding number_of
   number-lowest number h = (lowest-found exchange i book p number (sym ef ∙ h)).1
 
@@ -167,9 +166,9 @@ module _ (book m : List ℕ) (b : Book) (eb : b ≡ book_read book) where
       rw (← eb, h, one)
 
   module _ (main quick : ℕ) (lawful : b ≡ books.Lawful main quick) (c : Message) (ec : c ≡ message m) where
-    pub choice-message : (number : ℕ) → c ≡ read.Refused number → (r : Choice) → r ≡ message_refusal c → r ≡ choice book m
-    unfolding choice book_choice message_choice message_refusal
-    choice-message number h r e = rw (← eb, lawful, ← ec, h) (e ∙ rw h)
+    pub choice-message : (number : ℕ) → c ≡ read.Refused number → Refused number ≡ choice book m
+    unfolding choice book_choice message_choice
+    choice-message number h = rw (← eb, lawful, ← ec, h)
 
     module _ (exchange count : ℕ) (readable : c ≡ read.Read exchange count) (body : List ℕ) (es : body ≡ sa_from count 0 m) where
       pub choice-empty : length body ≡ 0 → Refused 16 ≡ choice book m

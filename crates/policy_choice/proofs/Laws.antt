@@ -18,8 +18,8 @@ use Rattle.policy_suiting.specs.Suiting.{Suits}
 use Rattle.policy_suiting.proofs.Laws.{First, none, here, first_from, first_from_lem}
 use Rattle.policy_suiting.proofs.SuitingLaws.{suits-says, says-suits}
 use Rattle.policy_choice.specs.Choice.{line_count, line_from, first_line, chosen, set_from, choose_from, NoneSuits}
-use Rattle.policy_choice.specs.declared.Choice.{Choice}
-use Rattle.policy_choice.specs.declared.Choice.TheVariants.{Refused}
+use Rattle.policy_choice.specs.Choice.{Choice}
+use Rattle.policy_choice.specs.Choice.{Refused}
 
 -- ---- the first line
 

@@ -1,3 +1,4 @@
 pub mod Laws
 pub mod ChoiceLaws
 mod ChoiceWays
+pub mod Told

@@ -1,27 +1,38 @@
 -- The choice, document 01: "Chosen: first set, then first line, then lowest transform in each proposal. Checks: book, message, no SA
 -- payload (16), then 14."
-use Rattle.std.specs.Prelude.{ℕ, zero, suc, ◌+◌, ◌-◌, ◌<◌, [], ◌∷◌, length, take, drop, eqb}
+use Rattle.std.specs.Prelude.{ℕ, zero, suc, Result, Ok, Err, ◌+◌, ◌-◌, ◌<◌, [], ◌∷◌, length, take, drop, eqb}
 use Rattle.wire_read.specs.Wire.{Bytes}
 use Rattle.wire_read.specs.Tests.{if◌then◌otherwise◌}
 use Rattle.wire_read.specs.Answer.{Answer, done, refused}
 use Rattle.message_chain.specs.Message.{message, payload_at}
-use Rattle.message_chain.specs.declared.Message.{Message}
-use Rattle.message_chain.specs.declared.Message.TheVariants as read
+use Rattle.message_chain.specs.Message.{Message}
+use Rattle.message_chain.specs.Message as read
 use Rattle.sa_fields.specs.Fields.{proposal_number, transform_number}
 use Rattle.sa_sets.specs.Sets.{set, set_count}
 use Rattle.sa_items.specs.Items.{proposal, proposal_count, transform}
+use Rattle.sa_fields.specs.declared.ProposalNumber.{ProposalNumber}
 use Rattle.sa_fields.specs.declared.TransformNumber.{TransformNumber}
 use Rattle.policy_lines.specs.Lines.{place, line_at, main_count, quick_count}
 use Rattle.policy_lines.specs.declared.LineNumber.{LineNumber}
 use Rattle.policy_book.specs.Book.{book_read}
-use Rattle.policy_book.specs.declared.Book.{Book}
-use Rattle.policy_book.specs.declared.Book.TheVariants as books
+use Rattle.policy_book.specs.Book.{Book}
+use Rattle.policy_book.specs.Book as books
 use Rattle.policy_suits.specs.Suits.{lowest, set_suits}
 use Rattle.policy_suiting.specs.Suiting.{Suits}
 use Rattle.policy_choice.specs.declared.Transforms.{Transforms}
 use Rattle.policy_choice.specs.declared.Transforms.TheVariants.{One, Two}
-use Rattle.policy_choice.specs.declared.Choice.{Choice}
-use Rattle.policy_choice.specs.declared.Choice.TheVariants.{Refused, Chosen}
+use Rattle.policy_choice.specs.declared.Choice.{Choice as Found}
+use Rattle.refusal.specs.declared.Refusal.{Refusal}
+use Rattle.refusal.specs.Numbers.{number}
+
+-- what is answered: the set, the line and the transforms; and what the code says so by
+pub data Choice : Type 0 where
+  Refused : (number : ℕ) → Choice
+  Chosen : (set : ProposalNumber) (line : LineNumber) (transforms : Transforms) → Choice
+
+abbrev pub choice_told : (answer : Result Found Refusal) → Choice
+choice_told (Ok found) = Chosen found.set found.line found.transforms
+choice_told (Err refusal) = Refused (number refusal)
 
 -- how many lines the book has for an exchange
 unfoldable pub line_count : (exchange : ℕ) (book : Bytes) → ℕ
@@ -73,11 +84,6 @@ body_at k m = drop 4 (take (payload_at k m).length (drop (payload_at k m).start 
 unfoldable pub sa_from : (n k : ℕ) (m : Bytes) → Bytes
 sa_from zero k m = []
 sa_from (suc n) k m = if eqb (payload_at k m).payloadtype 1 then body_at k m otherwise sa_from n (k + 1) m
-
--- the refusal of a message that does not read; it is asked of no other
-unfoldable pub message_refusal : (read : Message) → Choice
-message_refusal (read.Refused number) = Refused number
-message_refusal (read.Read exchange count) = Refused 0
 
 -- "message, no SA payload (16), then 14"
 unfoldable pub message_choice : (book m : Bytes) (read : Message) → Choice

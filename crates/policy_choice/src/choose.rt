@@ -1,13 +1,14 @@
 // The choice: first set, then first line, then lowest transform in each proposal.
-ghost use Rattle.std.specs.Prelude.{◌≡◌, ◌+◌, ◌≤◌};
+ghost use Rattle.std.specs.Prelude.{Ok, ◌≡◌, ◌+◌, ◌≤◌};
 ghost use Rattle.policy_lines.specs.Lines.{place};
-ghost use Rattle.policy_choice.specs.Choice.{line_count, line_from, first_line, lowest_number, transforms_of, chosen, set_from, choose_from, body_at, sa_from, message_refusal, choice};
+ghost use Rattle.policy_choice.specs.Choice.{line_count, line_from, first_line, lowest_number, transforms_of, chosen, set_from, choose_from, body_at, sa_from, choice_told, choice};
 
 use crate::{Choice, Transforms};
 use message_chain::{Message, payload_at};
-use policy_book::{Book, read_book};
+use policy_book::read_book;
 use policy_lines::{LineNumber, quick_count};
-use policy_suits::{SuitingTransform, lowest, set_suits};
+use policy_suits::{lowest, set_suits};
+use refusal::Refusal;
 use sa_fields::{TransformNumber, proposal_number, transform_number};
 use sa_items::{proposal, proposal_count, transform};
 use sa_sets::{set, set_count};
@@ -51,8 +52,8 @@ fn lowest_number(exchange: u8, line: LineNumber, book: &[u8], p: &[u8]) -> Trans
 {
     let found = lowest(exchange, line, book, p);
     match found {
-        SuitingTransform::None => transform_number(transform(0, p)),
-        SuitingTransform::Lowest(number) => number,
+        None => transform_number(transform(0, p)),
+        Some(number) => number,
     }
 }
 
@@ -67,30 +68,33 @@ fn transforms_of(exchange: u8, line: LineNumber, book: &[u8], s: &[u8]) -> Trans
 }
 
 fn chosen(exchange: u8, line: LineNumber, book: &[u8], s: &[u8]) -> Choice
-    ensures { result ≡ chosen exchange line book.now s.now }
+    ensures { choice_told (Ok result) ≡ chosen exchange line book.now s.now }
 {
-    let number = proposal_number(proposal(0, s));
-    Choice::Chosen(number, line, transforms_of(exchange, line, book, s))
+    Choice {
+        set: proposal_number(proposal(0, s)),
+        line,
+        transforms: transforms_of(exchange, line, book, s),
+    }
 }
 
-fn set_from(n: u8, k: u8, exchange: u8, book: &[u8], body: &[u8]) -> Choice
+fn set_from(n: u8, k: u8, exchange: u8, book: &[u8], body: &[u8]) -> Result<Choice, Refusal>
     requires { n + k ≤ 255 }
-    ensures { result ≡ set_from n k exchange book.now body.now }
+    ensures { choice_told result ≡ set_from n k exchange book.now body.now }
 {
     if n == 0 {
-        return Choice::Refused(14);
+        return Err(Refusal::NoProposalChosen);
     }
     let s = set(k, body);
     let line = first_line(exchange, book, s);
     if line.0 == 0 {
         return set_from(n - 1, k + 1, exchange, book, body);
     }
-    chosen(exchange, line, book, s)
+    Ok(chosen(exchange, line, book, s))
 }
 
 // The choice among the sets of an SA payload's body.
-pub fn choose_from(exchange: u8, book: &[u8], body: &[u8]) -> Choice
-    ensures { result ≡ choose_from exchange book.now body.now }
+pub fn choose_from(exchange: u8, book: &[u8], body: &[u8]) -> Result<Choice, Refusal>
+    ensures { choice_told result ≡ choose_from exchange book.now body.now }
 {
     set_from(set_count(body), 0, exchange, book, body)
 }
@@ -133,34 +137,21 @@ pub fn sa_body(m: &[u8]) -> &[u8]
     sa_of(32, m)
 }
 
-// The number of a message that was refused.
-fn refusal(read: Message) -> Choice
-    ensures { result ≡ message_refusal read }
-{
-    match read {
-        Message::Refused(number) => Choice::Refused(number),
-        Message::Read {
-            exchange: _,
-            count: _,
-        } => Choice::Refused(0),
-    }
-}
-
 // Chooses for the SA payload of a message, by a book.
-pub fn choose(book: &[u8], m: &[u8]) -> Choice
-    ensures { result ≡ choice book.now m.now }
+pub fn choose(book: &[u8], m: &[u8]) -> Result<Choice, Refusal>
+    ensures { choice_told result ≡ choice book.now m.now }
 {
-    let lines = read_book(book);
-    let Book::Lawful { main: _, quick: _ } = lines else {
-        return Choice::Refused(8193);
+    // Document 01 names this form: both answers are taken apart by let .. else.
+    let Ok(_) = read_book(book) else {
+        return Err(Refusal::BookUnlawful);
     };
     let read = message_chain::read(m);
-    let Message::Read { exchange, count } = read else {
-        return refusal(read);
+    let Ok(Message { exchange, count }) = read else {
+        return Err(read.unwrap_err());
     };
     let body = sa_of(count, m);
     if body.len() == 0 {
-        return Choice::Refused(16);
+        return Err(Refusal::PayloadMalformed);
     }
     choose_from(exchange, book, body)
 }

@@ -7,14 +7,16 @@ use policy_lines::LineNumber;
 use sa_fields::{ProposalNumber, TransformNumber};
 
 // A chosen transform for each proposal of the set, in the offer's order.
-#[derive(Clone, Copy)]
+#[derive(Clone, Copy, Debug, PartialEq, Eq)]
 pub enum Transforms {
     One(TransformNumber),
     Two(TransformNumber, TransformNumber),
 }
 
-#[derive(Clone, Copy)]
-pub enum Choice {
-    Refused(u16),
-    Chosen(ProposalNumber, LineNumber, Transforms),
+// The chosen set, the line that it suits, and the transforms.
+#[derive(Clone, Copy, Debug, PartialEq, Eq)]
+pub struct Choice {
+    pub set: ProposalNumber,
+    pub line: LineNumber,
+    pub transforms: Transforms,
 }

@@ -1,12 +1,23 @@
 -- A law for each way out of the functions on lawful replies.
 use Prim.Native.Nat.{ℕ, ◌-◌}
-use mathlib.Core.Path.{◌≡◌, refl}
+use mathlib.Core.Path.{◌≡◌, refl, sym, ap, ◌∙◌}
+use Rattle.std.specs.Prelude.{Option, None, Some, Result, Ok, Err, MatchOption, is_some}
+use Rattle.std.specs.Option.{option_or}
+use Rattle.std.specs.Result.{result_err}
+use Rattle.wire_read.proofs.Tests.{clash, never}
+use Rattle.refusal.specs.declared.Refusal.{Refusal}
+use Rattle.refusal.specs.Numbers.{number}
+use Rattle.message_chain.specs.declared.Message.{Message}
+use Rattle.policy_book.specs.declared.Book.{Book as Lines}
+use Rattle.policy_book.specs.Book.{book_told}
+use Rattle.policy_why.specs.Offer.{offer_told}
 use mathlib.Core.List.{List}
 use mathlib.Core.Bool.{Bool, true, false, not, ◌||◌, ◌&&◌}
 use lib.ListN.{length}
 use lib.Dec.{eqb}
 use borrow.Author.Tests.{eq-eqb, ne_eqb}
 use Rattle.wire_read.specs.Wire.{equal}
+use Rattle.wire_read.specs.Tests.{if◌then◌otherwise◌}
 use Rattle.message_header.specs.Header.{exchange_of}
 use Rattle.message_chain.specs.Message.{message}
 use Rattle.sa_fields.specs.Fields.{proposal_number, protocol, transform_count, transform_number, transform_id, attributes_of}
@@ -15,47 +26,53 @@ use Rattle.sa_fields.specs.declared.TransformNumber.{TransformNumber}
 use Rattle.sa_items.specs.Items.{proposal, proposal_count, transform, transform_numbered}
 use Rattle.sa_sets.specs.Sets.{set, set_count, set_numbered}
 use Rattle.policy_book.specs.Book.{book_read}
-use Rattle.policy_book.specs.declared.Book.{Book}
-use Rattle.policy_book.specs.declared.Book.TheVariants as books
+use Rattle.policy_book.specs.Book.{Book}
+use Rattle.policy_book.specs.Book as books
 use Rattle.policy_lines.specs.declared.LineNumber.{LineNumber}
 use Rattle.policy_choice.specs.Choice.{choose_from, sa_from}
-use Rattle.policy_choice.specs.declared.Choice.{Choice}
-use Rattle.policy_choice.specs.declared.Choice.TheVariants as choices
+use Rattle.policy_choice.specs.Choice.{Choice}
+use Rattle.policy_choice.specs.Choice as choices
 use Rattle.policy_choice.specs.declared.Transforms.{Transforms}
 use Rattle.policy_choice.specs.declared.Transforms.TheVariants.{One, Two}
 use Rattle.policy_why.specs.Why.{message_offer}
-use Rattle.policy_why.specs.declared.Offer.{Offer}
-use Rattle.policy_why.specs.declared.Offer.TheVariants as offers
-use Rattle.policy_lawful.specs.declared.Difference.{Difference}
-use Rattle.policy_lawful.specs.declared.Difference.TheVariants.{Nothing, OfferRefused, BookRefused, ReplyRefused, SeveralSets, SetNotOffered, Protocols, Order, SeveralTransforms, TransformNotOffered, Id, Attributes, OtherSet, OtherTransform, NothingChosen}
-use Rattle.policy_lawful.specs.declared.Lawfulness.{Lawfulness}
-use Rattle.policy_lawful.specs.declared.Lawfulness.TheVariants.{Refused, Lawful}
+use Rattle.policy_why.specs.Offer.{Offer}
+use Rattle.policy_why.specs.Offer as offers
+use Rattle.policy_lawful.specs.declared.Difference.{Difference as Found}
+use Rattle.policy_lawful.specs.declared.Difference.TheVariants as found
+use Rattle.policy_lawful.specs.Difference.{difference_told, Difference, Lawfulness, Refused, Lawful, Nothing, OfferRefused, BookRefused, ReplyRefused, SeveralSets, SetNotOffered, Protocols, Order, SeveralTransforms, TransformNotOffered, Id, Attributes, OtherSet, OtherTransform, NothingChosen}
 use Rattle.policy_lawful.specs.Lawful.{◌or_else◌, offer_refused, book_refused, reply_refused, replied_transform, offered_transform, several_transforms, transform_not_offered, other_id, other_attributes, of_each, last, has_protocol, same_protocols, same_order, protocols_differ, transforms_differ, replied_set, replied_number, offered_set, sets_differ, bodies_differ, other_transform, other_transforms, other_set, choice_differs, unread, compared, first_difference, lawful_by, reply_lawful}
 
 -- ---- the first of two differences
 
-pub else_next : (first next : Difference) → first ≡ Nothing → next ≡ (first or_else next)
+else_told : (found : Found) (next : Difference) → difference_told (Some found) ≡ (difference_told (Some found) or_else next)
 unfolding ◌or_else◌
-else_next first next h = rw h
+else_told (found.OfferRefused refusal) next = refl
+else_told (found.BookRefused refusal) next = refl
+else_told (found.ReplyRefused refusal) next = refl
+else_told (found.SeveralSets count) next = refl
+else_told (found.SetNotOffered number) next = refl
+else_told found.Protocols next = refl
+else_told found.Order next = refl
+else_told (found.SeveralTransforms protocol count) next = refl
+else_told (found.TransformNotOffered protocol number) next = refl
+else_told (found.Id protocol number found offered) next = refl
+else_told (found.Attributes protocol number) next = refl
+else_told (found.OtherSet found chosen) next = refl
+else_told (found.OtherTransform protocol found chosen) next = refl
+else_told found.NothingChosen next = refl
 
--- any variant but `Nothing`
-pub else_first : (first next : Difference) → (first ≡ Nothing → ⊥) → first ≡ (first or_else next)
+-- the next is asked only where there is no first
+pub or_told : {Asked : Type 0} (first r : Option Found) (next : Difference) → MatchOption first Asked (λ found. r ≡ Some found) →
+    (Asked → difference_told r ≡ next) → difference_told r ≡ (difference_told first or_else next)
 unfolding ◌or_else◌
-else_first Nothing next h = absurd (h refl)
-else_first (OfferRefused number) next h = refl
-else_first (BookRefused number) next h = refl
-else_first (ReplyRefused number) next h = refl
-else_first (SeveralSets count) next h = refl
-else_first (SetNotOffered number) next h = refl
-else_first Protocols next h = refl
-else_first Order next h = refl
-else_first (SeveralTransforms protocol count) next h = refl
-else_first (TransformNotOffered protocol number) next h = refl
-else_first (Id protocol number found offered) next h = refl
-else_first (Attributes protocol number) next h = refl
-else_first (OtherSet found chosen) next h = refl
-else_first (OtherTransform protocol found chosen) next h = refl
-else_first NothingChosen next h = refl
+or_told None r next asked says = says asked
+or_told (Some found) r next same says = ap difference_told same ∙ else_told found next
+
+-- and where both are there
+pub both_told : (first next : Option Found) → difference_told (option_or first next) ≡ (difference_told first or_else difference_told next)
+unfolding ◌or_else◌
+both_told None next = refl
+both_told (Some found) next = else_told found (difference_told next)
 
 -- nothing behind it changes nothing
 pub else_last : (first : Difference) → first ≡ (first or_else Nothing)
@@ -76,44 +93,50 @@ else_last (OtherSet found chosen) = refl
 else_last (OtherTransform protocol found chosen) = refl
 else_last NothingChosen = refl
 
+-- one that is there, and one that is not
+pub there : (next : Difference) (first : Option Found) → is_some first ≡ true → difference_told first ≡ (difference_told first or_else next)
+there next None some = clash some
+there next (Some found) some = else_told found next
+
+pub absent : (next : Difference) (first : Option Found) → is_some first ≡ false → next ≡ (difference_told first or_else next)
+unfolding ◌or_else◌
+absent next None none = refl
+absent next (Some found) none = clash (sym none)
+
 -- ---- which of the three cannot be read
 
-module _ (m : List ℕ) (read : Offer) (er : read ≡ message_offer m (message m)) where
-  pub offer-unread : (number : ℕ) → read ≡ offers.Refused number → OfferRefused number ≡ offer_refused (message_offer m (message m))
-  unfolding offer_refused
-  offer-unread number h = rw (← er, h)
+pub offer-read : (answer : Result Message Refusal) → result_err answer ≡ None → Nothing ≡ offer_refused (offer_told answer)
+unfolding offer_refused
+offer-read (Ok read) h = refl
+offer-read (Err other) h = never (cc)
 
-  pub offer-read : (exchange count : ℕ) → read ≡ offers.Readable exchange count → Nothing ≡ offer_refused (message_offer m (message m))
-  unfolding offer_refused
-  offer-read exchange count h = rw (← er, h)
+pub offer-unread : (answer : Result Message Refusal) (refusal : Refusal) → result_err answer ≡ Some refusal →
+    OfferRefused (number refusal) ≡ offer_refused (offer_told answer)
+unfolding offer_refused
+offer-unread (Ok read) refusal h = never (cc)
+offer-unread (Err other) refusal h = cc
 
-  pub reply_unread : (number : ℕ) → read ≡ offers.Refused number → ReplyRefused number ≡ reply_refused (message_offer m (message m))
-  unfolding reply_refused
-  reply_unread number h = rw (← er, h)
+pub reply_read : (answer : Result Message Refusal) → result_err answer ≡ None → Nothing ≡ reply_refused (offer_told answer)
+unfolding reply_refused
+reply_read (Ok read) h = refl
+reply_read (Err other) h = never (cc)
 
-  pub reply_read : (exchange count : ℕ) → read ≡ offers.Readable exchange count → Nothing ≡ reply_refused (message_offer m (message m))
-  unfolding reply_refused
-  reply_read exchange count h = rw (← er, h)
+pub reply_unread : (answer : Result Message Refusal) (refusal : Refusal) → result_err answer ≡ Some refusal →
+    ReplyRefused (number refusal) ≡ reply_refused (offer_told answer)
+unfolding reply_refused
+reply_unread (Ok read) refusal h = never (cc)
+reply_unread (Err other) refusal h = cc
 
-module _ (book : List ℕ) (read : Book) (er : read ≡ book_read book) where
-  pub book-unread : (number : ℕ) → read ≡ books.Refused number → BookRefused number ≡ book_refused (book_read book)
-  unfolding book_refused
-  book-unread number h = rw (← er, h)
+pub book-read : (answer : Result Lines Refusal) → result_err answer ≡ None → Nothing ≡ book_refused (book_told answer)
+unfolding book_refused
+book-read (Ok read) h = refl
+book-read (Err other) h = never (cc)
 
-  pub book-read : (main quick : ℕ) → read ≡ books.Lawful main quick → Nothing ≡ book_refused (book_read book)
-  unfolding book_refused
-  book-read main quick h = rw (← er, h)
-
-module _ (booked : Bool) (book offer reply : List ℕ) (o r : Difference) (eo : o ≡ offer_refused (message_offer offer (message offer)))
-    (er : r ≡ reply_refused (message_offer reply (message reply))) where
-  pub unread-booked : booked ≡ true → (b both all : Difference) → b ≡ book_refused (book_read book) → both ≡ (o or_else b) → all ≡ (both or_else r) →
-      all ≡ unread booked book offer reply
-  unfolding unread
-  unread-booked h b both all eb ew ea = rw (h, ← eo, ← er, ← eb, ← ew) ea
-
-  pub unread-alone : booked ≡ false → (all : Difference) → all ≡ (o or_else r) → all ≡ unread booked book offer reply
-  unfolding unread
-  unread-alone h all ea = rw (h, ← eo, ← er, ← else_last o) ea
+pub book-unread : (answer : Result Lines Refusal) (refusal : Refusal) → result_err answer ≡ Some refusal →
+    BookRefused (number refusal) ≡ book_refused (book_told answer)
+unfolding book_refused
+book-unread (Ok read) refusal h = never (cc)
+book-unread (Err other) refusal h = cc
 
 -- ---- a proposal of the reply beside the offered one
 
@@ -203,19 +226,14 @@ module _ (offered s : List ℕ) (same : Bool) (es : same ≡ same_protocols offe
     unfolding protocols_differ
     order_same h = rw (← es, alike, ← eo, h)
 
-pub each_counted : (s a b : List ℕ) (first next r : Difference) → a ≡ proposal 0 s → first ≡ several_transforms a → b ≡ last s → next ≡ several_transforms b →
-    r ≡ (first or_else next) → r ≡ of_each (λ p q. several_transforms q) s s
-each_counted s a b first next r ea ef eb en er = rw (← ea, ← ef, ← eb, ← en) er
+-- the first proposals differ, or the last are asked
+module _ (told : List ℕ → List ℕ → Difference) (offered s p q : List ℕ) (ep : p ≡ proposal 0 offered) (eq : q ≡ proposal 0 s) (first : Option Found)
+    (ef : difference_told first ≡ told p q) where
+  pub each-first : is_some first ≡ true → difference_told first ≡ of_each told offered s
+  each-first some = rw (← ep, ← eq, ← ef) (there _ first some)
 
-pub each_of : (difference : List ℕ → List ℕ → Difference) (offered s p q p2 q2 : List ℕ) (first next r : Difference) → p ≡ proposal 0 offered → q ≡ proposal 0 s →
-    first ≡ difference p q → p2 ≡ last offered → q2 ≡ last s → next ≡ difference p2 q2 → r ≡ (first or_else next) → r ≡ of_each difference offered s
-each_of difference offered s p q p2 q2 first next r ep eq ef ep2 eq2 en er = rw (← ep, ← eq, ← ef, ← ep2, ← eq2, ← en) er
-
-pub transforms-compared : (offered s : List ℕ) (a b c d ab abc r : Difference) → a ≡ of_each (λ p q. several_transforms q) s s →
-    b ≡ of_each transform_not_offered offered s → ab ≡ (a or_else b) → c ≡ of_each other_id offered s → abc ≡ (ab or_else c) →
-    d ≡ of_each other_attributes offered s → r ≡ (abc or_else d) → r ≡ transforms_differ offered s
-unfolding transforms_differ
-transforms-compared offered s a b c d ab abc r ea eb eab ec eabc ed er = rw (← ea, ← eb, ← eab, ← ec, ← eabc, ← ed) er
+  pub each-last : is_some first ≡ false → (p2 q2 : List ℕ) (r : Difference) → p2 ≡ last offered → q2 ≡ last s → r ≡ told p2 q2 → r ≡ of_each told offered s
+  each-last none p2 q2 r ep2 eq2 er = rw (← ep, ← eq, ← ef, ← ep2, ← eq2, ← er) (absent _ first none)
 
 -- ---- two bodies
 
@@ -241,115 +259,80 @@ module _ (offer reply : List ℕ) (count : ℕ) (ec : count ≡ set_count reply)
     unfolding sets_differ
     set_there h = rw (← ec, eq-eqb count 1 one, ← eo, ne_eqb (length o) 0 h)
 
-pub bodies_compared : (offer reply o s : List ℕ) (a b c ab r : Difference) → o ≡ offered_set offer reply → s ≡ set 0 reply → a ≡ sets_differ offer reply →
-    b ≡ protocols_differ o s → ab ≡ (a or_else b) → c ≡ transforms_differ o s → r ≡ (ab or_else c) → r ≡ bodies_differ offer reply
+pub bodies_compared : (offer reply o s : List ℕ) (a ab r : Difference) → o ≡ offered_set offer reply → s ≡ set 0 reply → a ≡ sets_differ offer reply →
+    ab ≡ (a or_else protocols_differ o s) → r ≡ (ab or_else transforms_differ o s) → r ≡ bodies_differ offer reply
 unfolding bodies_differ replied_set
-bodies_compared offer reply o s a b c ab r eo es ea eb eab ec er = rw (← eo, ← es, ← ea, ← eb, ← eab, ← ec) er
+bodies_compared offer reply o s a ab r eo es ea eab er = rw (← eo, ← es, ← ea, ← eab) er
 
 -- ---- what the book chooses
 
-module _ (chosen : TransformNumber) (q t : List ℕ) (et : t ≡ transform 0 q) (found : TransformNumber) (ef : found ≡ transform_number t) where
-  pub transform-same : found.0 ≡ chosen.0 → Nothing ≡ other_transform chosen q
+module _ (chosen : TransformNumber) (q t : List ℕ) (et : t ≡ transform 0 q) (found : TransformNumber) (ef : found ≡ transform_number t) (same : Bool)
+    (es : same ≡ eqb found.0 chosen.0) where
+  pub transform-same : same ≡ true → Nothing ≡ other_transform chosen q
   unfolding other_transform replied_transform
-  transform-same h = rw (← et, ← ef, eq-eqb found.0 chosen.0 h)
+  transform-same h = rw (← et, ← ef, ← es, h)
 
-  pub transform-other : (found.0 ≡ chosen.0 → ⊥) → (its : ℕ) → its ≡ protocol q → OtherTransform its found chosen ≡ other_transform chosen q
+  pub transform-other : same ≡ false → (its : ℕ) → its ≡ protocol q → OtherTransform its found chosen ≡ other_transform chosen q
   unfolding other_transform replied_transform
-  transform-other h its ep = rw (← et, ← ef, ne_eqb found.0 chosen.0 h, ← ep)
+  transform-other h its ep = rw (← et, ← ef, ← es, h, ← ep)
 
 module _ (s : List ℕ) (chosen : Transforms) (q : List ℕ) (eq : q ≡ proposal 0 s) where
   pub chose_one : (t : TransformNumber) → chosen ≡ One t → (r : Difference) → r ≡ other_transform t q → r ≡ other_transforms s chosen
   unfolding other_transforms
   chose_one t h r er = rw (h, ← eq) er
 
-  pub chose_two : (t u : TransformNumber) → chosen ≡ Two t u → (q2 : List ℕ) → q2 ≡ last s → (first next r : Difference) → first ≡ other_transform t q →
-      next ≡ other_transform u q2 → r ≡ (first or_else next) → r ≡ other_transforms s chosen
+  pub chose_two : (t u : TransformNumber) → chosen ≡ Two t u → (first r : Difference) → first ≡ other_transform t q →
+      r ≡ (first or_else other_transform u (last s)) → r ≡ other_transforms s chosen
   unfolding other_transforms
-  chose_two t u h q2 e2 first next r ef en er = rw (h, ← eq, ← e2, ← ef, ← en) er
+  chose_two t u h first r ef er = rw (h, ← eq, ← ef) er
 
-module _ (number chosen : ProposalNumber) where
-  pub set_same : number.0 ≡ chosen.0 → Nothing ≡ other_set number chosen
+module _ (number chosen : ProposalNumber) (same : Bool) (es : same ≡ eqb number.0 chosen.0) where
+  pub set_same : same ≡ true → Nothing ≡ other_set number chosen
   unfolding other_set
-  set_same h = rw (eq-eqb number.0 chosen.0 h)
+  set_same h = rw (← es, h)
 
-  pub set_other : (number.0 ≡ chosen.0 → ⊥) → OtherSet number chosen ≡ other_set number chosen
+  pub set_other : same ≡ false → OtherSet number chosen ≡ other_set number chosen
   unfolding other_set
-  set_other h = rw (ne_eqb number.0 chosen.0 h)
-
-module _ (reply : List ℕ) (chosen : Choice) where
-  pub chose_nothing : (number : ℕ) → chosen ≡ choices.Refused number → NothingChosen ≡ choice_differs reply chosen
-  unfolding choice_differs
-  chose_nothing number h = rw h
-
-  pub chose_set : (number : ProposalNumber) (line : LineNumber) (transforms : Transforms) → chosen ≡ choices.Chosen number line transforms →
-      (own : ProposalNumber) (s : List ℕ) (a b r : Difference) → own ≡ replied_number reply → a ≡ other_set own number → s ≡ set 0 reply →
-      b ≡ other_transforms s transforms → r ≡ (a or_else b) → r ≡ choice_differs reply chosen
-  unfolding choice_differs replied_set
-  chose_set number line transforms h own s a b r eo ea es eb er = rw (h, ← eo, ← ea, ← es, ← eb) er
+  set_other h = rw (← es, h)
 
 -- ---- all of it
 
-module _ (booked : Bool) (exchange : ℕ) (book offer reply : List ℕ) (a : Difference) (ea : a ≡ bodies_differ offer reply) where
-  pub compared-booked : booked ≡ true → (chosen : Choice) (b r : Difference) → chosen ≡ choose_from exchange book offer → b ≡ choice_differs reply chosen →
-      r ≡ (a or_else b) → r ≡ compared booked exchange book offer reply
+module _ (booked : Bool) (book offer reply : List ℕ) where
+  pub unread-all : (x y z xy xyz : Option Found) → difference_told x ≡ offer_refused (message_offer offer (message offer)) →
+      difference_told y ≡ (if booked then book_refused (book_read book) otherwise Nothing) →
+      difference_told z ≡ reply_refused (message_offer reply (message reply)) → xy ≡ option_or x y → xyz ≡ option_or xy z →
+      difference_told xyz ≡ unread booked book offer reply
+  unfolding unread
+  unread-all x y z xy xyz ex ey ez exy exyz = rw (exyz, both_told xy z, exy, both_told x y, ex, ey, ez)
+
+  pub compared-all : (exchange : ℕ) (x y xy : Option Found) → difference_told x ≡ bodies_differ offer reply →
+      difference_told y ≡ (if booked then choice_differs reply (choose_from exchange book offer) otherwise Nothing) → xy ≡ option_or x y →
+      difference_told xy ≡ compared booked exchange book offer reply
   unfolding compared
-  compared-booked h chosen b r ec eb er = rw (h, ← ea, ← ec, ← eb) er
-
-  pub compared-alone : booked ≡ false → a ≡ compared booked exchange book offer reply
-  unfolding compared
-  compared-alone h = rw (h, ← ea) (else_last a)
-
-module _ (booked : Bool) (book offer reply : List ℕ) (found : Difference) (ef : found ≡ unread booked book offer reply) where
-  pub differs_unread : (found ≡ Nothing → ⊥) → found ≡ first_difference booked book offer reply
-  unfolding first_difference
-  differs_unread h = rw (← ef) (else_first found _ h)
-
-  pub differs_read : found ≡ Nothing → (exchange : ℕ) (o s : List ℕ) (r : Difference) → exchange ≡ exchange_of offer → o ≡ sa_from 32 0 offer →
-      s ≡ sa_from 32 0 reply → r ≡ compared booked exchange book o s → r ≡ first_difference booked book offer reply
-  unfolding first_difference
-  differs_read h exchange o s r ex eo es er = rw (← ef, ← ex, ← eo, ← es, ← er) (else_next found r h)
+  compared-all exchange x y xy ex ey exy = rw (exy, both_told x y, ex, ey)
 
 -- ---- the number of a refusal
 
-module _ (x : Difference) where
-  pub by-offer : (number : ℕ) → x ≡ OfferRefused number → Refused number ≡ lawful_by x
-  unfolding lawful_by
-  by-offer number h = rw h
-
-  pub by-book : (number : ℕ) → x ≡ BookRefused number → Refused number ≡ lawful_by x
-  unfolding lawful_by
-  by-book number h = rw h
-
-  pub by_reply : (number : ℕ) → x ≡ ReplyRefused number → Refused number ≡ lawful_by x
-  unfolding lawful_by
-  by_reply number h = rw h
-
 -- how the reply does not repeat the offer: any variant but those that are named
-module _ (x : Difference) (differs : x ≡ Nothing → ⊥) (offer : (n : ℕ) → x ≡ OfferRefused n → ⊥) (book : (n : ℕ) → x ≡ BookRefused n → ⊥)
-    (reply : (n : ℕ) → x ≡ ReplyRefused n → ⊥) (set : (f c : ProposalNumber) → x ≡ OtherSet f c → ⊥)
-    (transform : (p : ℕ) (f c : TransformNumber) → x ≡ OtherTransform p f c → ⊥) (chosen : x ≡ NothingChosen → ⊥) where
-  by_case : (y : Difference) → x ≡ y → Refused 15 ≡ lawful_by y
+module _ (x : Found) (offer : (r : Refusal) → x ≡ found.OfferRefused r → ⊥) (book : (r : Refusal) → x ≡ found.BookRefused r → ⊥)
+    (reply : (r : Refusal) → x ≡ found.ReplyRefused r → ⊥) (set : (f c : ProposalNumber) → x ≡ found.OtherSet f c → ⊥)
+    (transform : (p : ℕ) (f c : TransformNumber) → x ≡ found.OtherTransform p f c → ⊥) (chosen : x ≡ found.NothingChosen → ⊥) where
+  by_case : (y : Found) → x ≡ y → Refused 15 ≡ lawful_by (difference_told (Some y))
   unfolding lawful_by
-  by_case Nothing e = absurd (differs e)
-  by_case (OfferRefused number) e = absurd (offer number e)
-  by_case (BookRefused number) e = absurd (book number e)
-  by_case (ReplyRefused number) e = absurd (reply number e)
-  by_case (SeveralSets count) e = refl
-  by_case (SetNotOffered number) e = refl
-  by_case Protocols e = refl
-  by_case Order e = refl
-  by_case (SeveralTransforms protocol count) e = refl
-  by_case (TransformNotOffered protocol number) e = refl
-  by_case (Id protocol number found offered) e = refl
-  by_case (Attributes protocol number) e = refl
-  by_case (OtherSet found other) e = absurd (set found other e)
-  by_case (OtherTransform protocol found other) e = absurd (transform protocol found other e)
-  by_case NothingChosen e = absurd (chosen e)
+  by_case (found.OfferRefused refusal) e = absurd (offer refusal e)
+  by_case (found.BookRefused refusal) e = absurd (book refusal e)
+  by_case (found.ReplyRefused refusal) e = absurd (reply refusal e)
+  by_case (found.SeveralSets count) e = refl
+  by_case (found.SetNotOffered number) e = refl
+  by_case found.Protocols e = refl
+  by_case found.Order e = refl
+  by_case (found.SeveralTransforms protocol count) e = refl
+  by_case (found.TransformNotOffered protocol number) e = refl
+  by_case (found.Id protocol number found offered) e = refl
+  by_case (found.Attributes protocol number) e = refl
+  by_case (found.OtherSet found other) e = absurd (set found other e)
+  by_case (found.OtherTransform protocol found other) e = absurd (transform protocol found other e)
+  by_case found.NothingChosen e = absurd (chosen e)
 
-  pub by_repeat : Refused 15 ≡ lawful_by x
+  pub by_repeat : Refused 15 ≡ lawful_by (difference_told (Some x))
   by_repeat = by_case x refl
-
-pub lawful-judged : (booked : Bool) (book offer reply : List ℕ) (x : Difference) (r : Lawfulness) → x ≡ first_difference booked book offer reply →
-    r ≡ lawful_by x → r ≡ reply_lawful booked book offer reply
-unfolding reply_lawful
-lawful-judged booked book offer reply x r ex er = rw (← ex) er

@@ -1,1 +1,2 @@
 pub mod LawfulWays
+pub mod Told

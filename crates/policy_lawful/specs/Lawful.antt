@@ -13,20 +13,17 @@ use Rattle.sa_fields.specs.declared.TransformNumber.{TransformNumber}
 use Rattle.sa_items.specs.Items.{proposal, proposal_count, transform, transform_numbered}
 use Rattle.sa_sets.specs.Sets.{set, set_count, set_numbered}
 use Rattle.policy_book.specs.Book.{book_read}
-use Rattle.policy_book.specs.declared.Book.{Book}
-use Rattle.policy_book.specs.declared.Book.TheVariants as books
+use Rattle.policy_book.specs.Book.{Book}
+use Rattle.policy_book.specs.Book as books
 use Rattle.policy_choice.specs.Choice.{choose_from, sa_from}
-use Rattle.policy_choice.specs.declared.Choice.{Choice}
-use Rattle.policy_choice.specs.declared.Choice.TheVariants as choices
+use Rattle.policy_choice.specs.Choice.{Choice}
+use Rattle.policy_choice.specs.Choice as choices
 use Rattle.policy_choice.specs.declared.Transforms.{Transforms}
 use Rattle.policy_choice.specs.declared.Transforms.TheVariants.{One, Two}
 use Rattle.policy_why.specs.Why.{message_offer}
-use Rattle.policy_why.specs.declared.Offer.{Offer}
-use Rattle.policy_why.specs.declared.Offer.TheVariants as offers
-use Rattle.policy_lawful.specs.declared.Difference.{Difference}
-use Rattle.policy_lawful.specs.declared.Difference.TheVariants.{Nothing, OfferRefused, BookRefused, ReplyRefused, SeveralSets, SetNotOffered, Protocols, Order, SeveralTransforms, TransformNotOffered, Id, Attributes, OtherSet, OtherTransform, NothingChosen}
-use Rattle.policy_lawful.specs.declared.Lawfulness.{Lawfulness}
-use Rattle.policy_lawful.specs.declared.Lawfulness.TheVariants.{Refused, Lawful}
+use Rattle.policy_why.specs.Offer.{Offer}
+use Rattle.policy_why.specs.Offer as offers
+use Rattle.policy_lawful.specs.Difference.{Difference, Lawfulness, Refused, Lawful, Nothing, OfferRefused, BookRefused, ReplyRefused, SeveralSets, SetNotOffered, Protocols, Order, SeveralTransforms, TransformNotOffered, Id, Attributes, OtherSet, OtherTransform, NothingChosen}
 
 -- what differs first: this, or where it is nothing the next
 infixl 20 ◌or_else◌

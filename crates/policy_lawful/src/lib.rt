@@ -1,19 +1,21 @@
 // Whether a reply is lawful beside the offer that it answers and, where there is one, a book; and what differs first.
 #![tactic(auto)]
 
-ghost use Rattle.std.specs.Prelude.{◌≡◌};
+ghost use Rattle.std.specs.Prelude.{◌≡◌, Option, Some, Ok, is_some};
 ghost use Rattle.wire_read.specs.Tests.{if◌then◌otherwise◌};
 ghost use Rattle.message_chain.specs.Message.{message};
 ghost use Rattle.policy_book.specs.Book.{book_read};
-ghost use Rattle.policy_choice.specs.Choice.{choose_from};
+ghost use Rattle.policy_choice.specs.Choice.{choice_told, choose_from};
+ghost use Rattle.refusal.specs.Numbers.{number};
 ghost use Rattle.policy_why.specs.Why.{message_offer};
-ghost use Rattle.policy_lawful.specs.declared.Difference.TheVariants.{Nothing};
-ghost use Rattle.policy_lawful.specs.Lawful.{◌or_else◌, offer_refused, book_refused, reply_refused, offered_transform, several_transforms, transform_not_offered, other_id, other_attributes, of_each, last, has_protocol, same_protocols, same_order, protocols_differ, transforms_differ, replied_number, offered_set, sets_differ, bodies_differ, other_transform, other_transforms, other_set, choice_differs, unread, compared, first_difference, lawful_by, reply_lawful};
+ghost use Rattle.policy_lawful.specs.Difference.{Nothing, Refused, difference_told, lawful_told, book_bytes, Tells};
+ghost use Rattle.policy_lawful.specs.Lawful.{offer_refused, book_refused, reply_refused, offered_transform, several_transforms, transform_not_offered, other_id, other_attributes, of_each, last, has_protocol, same_protocols, same_order, protocols_differ, transforms_differ, replied_number, offered_set, sets_differ, bodies_differ, other_transform, other_transforms, other_set, choice_differs, unread, compared, first_difference, lawful_by, reply_lawful};
 
-use policy_book::{Book, read_book};
+use policy_book::read_book;
 use policy_choice::choose::{choose_from, sa_body};
 use policy_choice::{Choice, Transforms};
-use policy_why::{Offer, message_offer};
+use policy_why::message_offer;
+use refusal::Refusal;
 use sa_fields::{
     ProposalNumber, TransformNumber, attributes_of, proposal_number, protocol, transform_count,
     transform_id, transform_number,
@@ -22,14 +24,13 @@ use sa_items::{proposal, proposal_count, transform, transform_numbered};
 use sa_sets::{set, set_count, set_numbered};
 use wire_read::{byte, equal};
 
-// What differs first: which of the three cannot be read, with the number of its refusal; how the reply does not repeat the
-// offer; or what the book chooses instead. A protocol is that of the proposal in which it differs.
-#[derive(Clone, Copy)]
+// What differs first: which of the three cannot be read, and why; how the reply does not repeat the offer; or what the book
+// chooses instead. A protocol is that of the proposal in which it differs.
+#[derive(Clone, Copy, Debug, PartialEq, Eq)]
 pub enum Difference {
-    Nothing,
-    OfferRefused(u16),
-    BookRefused(u16),
-    ReplyRefused(u16),
+    OfferRefused(Refusal),
+    BookRefused(Refusal),
+    ReplyRefused(Refusal),
     SeveralSets(u8),
     SetNotOffered(ProposalNumber),
     Protocols,
@@ -64,56 +65,50 @@ pub enum Difference {
     NothingChosen,
 }
 
-#[derive(Clone, Copy)]
-pub enum Lawfulness {
-    Refused(u16),
-    Lawful,
-}
-
-// The first of two differences.
-fn or_else(first: Difference, next: Difference) -> Difference
-    ensures { result ≡ (first or_else next) }
-{
-    match first {
-        Difference::Nothing => next,
-        _ => first,
+impl Difference {
+    // How a reply that differs so is refused.
+    fn refusal(self) -> Refusal
+        ensures { Refused (number result) ≡ lawful_by (difference_told (Some self)) }
+    {
+        match self {
+            Difference::OfferRefused(refusal) => refusal,
+            Difference::BookRefused(refusal) => refusal,
+            Difference::ReplyRefused(refusal) => refusal,
+            Difference::OtherSet {
+                found: _,
+                chosen: _,
+            } => Refusal::NoProposalChosen,
+            Difference::OtherTransform {
+                protocol: _,
+                found: _,
+                chosen: _,
+            } => Refusal::NoProposalChosen,
+            Difference::NothingChosen => Refusal::NoProposalChosen,
+            _ => Refusal::BadProposalSyntax,
+        }
     }
 }
 
-fn offer_refused(m: &[u8]) -> Difference
-    ensures { result ≡ offer_refused (message_offer m.now (message m.now)) }
+// This one and `reply_refused` are two lines each: one function of both would take the variant as a closure and be longer.
+fn offer_refused(m: &[u8]) -> Option<Difference>
+    ensures { difference_told result ≡ offer_refused (message_offer m.now (message m.now)) }
 {
-    let read = message_offer(m);
-    match read {
-        Offer::Refused(number) => Difference::OfferRefused(number),
-        Offer::Readable {
-            exchange: _,
-            count: _,
-        } => Difference::Nothing,
-    }
+    let refusal = message_offer(m).err()?;
+    Some(Difference::OfferRefused(refusal))
 }
 
-fn book_refused(book: &[u8]) -> Difference
-    ensures { result ≡ book_refused (book_read book.now) }
+fn book_refused(book: Option<&[u8]>) -> Option<Difference>
+    ensures { difference_told result ≡ (if is_some book.entry then book_refused (book_read (book_bytes book.entry)) otherwise Nothing) }
 {
-    let read = read_book(book);
-    match read {
-        Book::Refused(number) => Difference::BookRefused(number),
-        Book::Lawful { main: _, quick: _ } => Difference::Nothing,
-    }
+    let refusal = read_book(book?).err()?;
+    Some(Difference::BookRefused(refusal))
 }
 
-fn reply_refused(m: &[u8]) -> Difference
-    ensures { result ≡ reply_refused (message_offer m.now (message m.now)) }
+fn reply_refused(m: &[u8]) -> Option<Difference>
+    ensures { difference_told result ≡ reply_refused (message_offer m.now (message m.now)) }
 {
-    let read = message_offer(m);
-    match read {
-        Offer::Refused(number) => Difference::ReplyRefused(number),
-        Offer::Readable {
-            exchange: _,
-            count: _,
-        } => Difference::Nothing,
-    }
+    let refusal = message_offer(m).err()?;
+    Some(Difference::ReplyRefused(refusal))
 }
 
 // The offered transform that has the number of the reply's, of the proposals p and q.
@@ -123,57 +118,57 @@ fn offered_transform<'a>(p: &'a [u8], q: &[u8]) -> &'a [u8]
     transform_numbered(transform_number(transform(0, q)), p)
 }
 
-fn several_transforms(q: &[u8]) -> Difference
-    ensures { result ≡ several_transforms q.now }
+fn several_transforms(q: &[u8]) -> Option<Difference>
+    ensures { difference_told result ≡ several_transforms q.now }
 {
     let count = transform_count(q);
     if count == 1 {
-        return Difference::Nothing;
+        return None;
     }
     let protocol = protocol(q);
-    Difference::SeveralTransforms { protocol, count }
+    Some(Difference::SeveralTransforms { protocol, count })
 }
 
-fn transform_not_offered(p: &[u8], q: &[u8]) -> Difference
-    ensures { result ≡ transform_not_offered p.now q.now }
+fn transform_not_offered(p: &[u8], q: &[u8]) -> Option<Difference>
+    ensures { difference_told result ≡ transform_not_offered p.now q.now }
 {
     if offered_transform(p, q).len() != 0 {
-        return Difference::Nothing;
+        return None;
     }
     let protocol = protocol(q);
     let number = transform_number(transform(0, q));
-    Difference::TransformNotOffered { protocol, number }
+    Some(Difference::TransformNotOffered { protocol, number })
 }
 
-fn other_id(p: &[u8], q: &[u8]) -> Difference
-    ensures { result ≡ other_id p.now q.now }
+fn other_id(p: &[u8], q: &[u8]) -> Option<Difference>
+    ensures { difference_told result ≡ other_id p.now q.now }
 {
     let t = transform(0, q);
     let found = transform_id(t);
     let offered = transform_id(offered_transform(p, q));
     if found == offered {
-        return Difference::Nothing;
+        return None;
     }
     let protocol = protocol(q);
     let number = transform_number(t);
-    Difference::Id {
+    Some(Difference::Id {
         protocol,
         number,
         found,
         offered,
-    }
+    })
 }
 
-fn other_attributes(p: &[u8], q: &[u8]) -> Difference
-    ensures { result ≡ other_attributes p.now q.now }
+fn other_attributes(p: &[u8], q: &[u8]) -> Option<Difference>
+    ensures { difference_told result ≡ other_attributes p.now q.now }
 {
     let t = transform(0, q);
     if equal(attributes_of(t), attributes_of(offered_transform(p, q))) {
-        return Difference::Nothing;
+        return None;
     }
     let protocol = protocol(q);
     let number = transform_number(t);
-    Difference::Attributes { protocol, number }
+    Some(Difference::Attributes { protocol, number })
 }
 
 // The last proposal of a set.
@@ -208,54 +203,41 @@ fn same_order(offered: &[u8], s: &[u8]) -> bool
         & (protocol(last(offered)) == protocol(last(s)))
 }
 
-fn protocols_differ(offered: &[u8], s: &[u8]) -> Difference
-    ensures { result ≡ protocols_differ offered.now s.now }
+fn protocols_differ(offered: &[u8], s: &[u8]) -> Option<Difference>
+    ensures { difference_told result ≡ protocols_differ offered.now s.now }
 {
     if !same_protocols(offered, s) {
-        return Difference::Protocols;
+        return Some(Difference::Protocols);
     }
     if !same_order(offered, s) {
-        return Difference::Order;
+        return Some(Difference::Order);
     }
-    Difference::Nothing
+    None
 }
 
-// What differs of each kind, in the first proposals and then in the last.
-fn each_several(s: &[u8]) -> Difference
-    ensures { result ≡ of_each (λ p q. several_transforms q) s.now s.now }
+// What differs of a kind in the first proposals or, where nothing does, in the last.
+fn of_each<F: Fn(&[u8], &[u8]) -> Option<Difference>>(
+    difference: F,
+    offered: &[u8],
+    s: &[u8],
+) -> Option<Difference>
+    requires { F.IsAlwaysCallable difference }
+    ensures { (told : _) → Tells told (F.post difference) → difference_told result ≡ of_each told offered.now s.now }
 {
-    let first = several_transforms(proposal(0, s));
-    or_else(first, several_transforms(last(s)))
+    let first = difference(proposal(0, offered), proposal(0, s));
+    if first.is_some() {
+        return first;
+    }
+    difference(last(offered), last(s))
 }
 
-fn each_number(offered: &[u8], s: &[u8]) -> Difference
-    ensures { result ≡ of_each transform_not_offered offered.now s.now }
+fn transforms_differ(offered: &[u8], s: &[u8]) -> Option<Difference>
+    ensures { difference_told result ≡ transforms_differ offered.now s.now }
 {
-    let first = transform_not_offered(proposal(0, offered), proposal(0, s));
-    or_else(first, transform_not_offered(last(offered), last(s)))
-}
-
-fn each_id(offered: &[u8], s: &[u8]) -> Difference
-    ensures { result ≡ of_each other_id offered.now s.now }
-{
-    let first = other_id(proposal(0, offered), proposal(0, s));
-    or_else(first, other_id(last(offered), last(s)))
-}
-
-fn each_attributes(offered: &[u8], s: &[u8]) -> Difference
-    ensures { result ≡ of_each other_attributes offered.now s.now }
-{
-    let first = other_attributes(proposal(0, offered), proposal(0, s));
-    or_else(first, other_attributes(last(offered), last(s)))
-}
-
-fn transforms_differ(offered: &[u8], s: &[u8]) -> Difference
-    ensures { result ≡ transforms_differ offered.now s.now }
-{
-    let found = each_several(s);
-    let found = or_else(found, each_number(offered, s));
-    let found = or_else(found, each_id(offered, s));
-    or_else(found, each_attributes(offered, s))
+    of_each(|_, q| several_transforms(q), offered, s)
+        .or(of_each(transform_not_offered, offered, s))
+        .or(of_each(other_id, offered, s))
+        .or(of_each(other_attributes, offered, s))
 }
 
 fn replied_number(reply: &[u8]) -> ProposalNumber
@@ -271,152 +253,124 @@ fn offered_set<'a>(offer: &'a [u8], reply: &[u8]) -> &'a [u8]
     set_numbered(replied_number(reply), offer)
 }
 
-fn sets_differ(offer: &[u8], reply: &[u8]) -> Difference
-    ensures { result ≡ sets_differ offer.now reply.now }
+fn sets_differ(offer: &[u8], reply: &[u8]) -> Option<Difference>
+    ensures { difference_told result ≡ sets_differ offer.now reply.now }
 {
     let count = set_count(reply);
     if count != 1 {
-        return Difference::SeveralSets(count);
+        return Some(Difference::SeveralSets(count));
     }
     if offered_set(offer, reply).len() == 0 {
-        return Difference::SetNotOffered(replied_number(reply));
+        return Some(Difference::SetNotOffered(replied_number(reply)));
     }
-    Difference::Nothing
+    None
 }
 
 // How the body of a reply's SA payload does not repeat the offer's.
-fn bodies_differ(offer: &[u8], reply: &[u8]) -> Difference
-    ensures { result ≡ bodies_differ offer.now reply.now }
+fn bodies_differ(offer: &[u8], reply: &[u8]) -> Option<Difference>
+    ensures { difference_told result ≡ bodies_differ offer.now reply.now }
 {
     let offered = offered_set(offer, reply);
     let s = set(0, reply);
-    let sets = sets_differ(offer, reply);
-    let protocols = protocols_differ(offered, s);
-    or_else(or_else(sets, protocols), transforms_differ(offered, s))
+    sets_differ(offer, reply)
+        .or_else(|| protocols_differ(offered, s))
+        .or_else(|| transforms_differ(offered, s))
 }
 
-fn other_transform(chosen: TransformNumber, q: &[u8]) -> Difference
-    ensures { result ≡ other_transform chosen q.now }
+fn other_transform(chosen: TransformNumber, q: &[u8]) -> Option<Difference>
+    ensures { difference_told result ≡ other_transform chosen q.now }
 {
     let found = transform_number(transform(0, q));
-    if found.0 == chosen.0 {
-        return Difference::Nothing;
+    if found == chosen {
+        return None;
     }
     let protocol = protocol(q);
-    Difference::OtherTransform {
+    Some(Difference::OtherTransform {
         protocol,
         found,
         chosen,
-    }
+    })
 }
 
-fn other_transforms(s: &[u8], chosen: Transforms) -> Difference
-    ensures { result ≡ other_transforms s.now chosen }
+fn other_transforms(s: &[u8], chosen: Transforms) -> Option<Difference>
+    ensures { difference_told result ≡ other_transforms s.now chosen }
 {
     match chosen {
         Transforms::One(t) => other_transform(t, proposal(0, s)),
         Transforms::Two(t, u) => {
-            or_else(
-                other_transform(t, proposal(0, s)),
-                other_transform(u, last(s)),
-            )
+            other_transform(t, proposal(0, s)).or_else(|| other_transform(u, last(s)))
         }
     }
 }
 
-fn other_set(number: ProposalNumber, chosen: ProposalNumber) -> Difference
-    ensures { result ≡ other_set number chosen }
+fn other_set(number: ProposalNumber, chosen: ProposalNumber) -> Option<Difference>
+    ensures { difference_told result ≡ other_set number chosen }
 {
-    if number.0 == chosen.0 {
-        return Difference::Nothing;
+    if number == chosen {
+        return None;
     }
-    Difference::OtherSet {
+    Some(Difference::OtherSet {
         found: number,
         chosen,
-    }
+    })
 }
 
 // What the choice takes instead of what the reply takes.
-fn choice_differs(reply: &[u8], chosen: Choice) -> Difference
-    ensures { result ≡ choice_differs reply.now chosen }
+fn choice_differs(reply: &[u8], chosen: Result<Choice, Refusal>) -> Option<Difference>
+    ensures { difference_told result ≡ choice_differs reply.now (choice_told chosen) }
 {
     match chosen {
-        Choice::Refused(_) => Difference::NothingChosen,
-        Choice::Chosen(number, _, transforms) => {
-            let set_differs = other_set(replied_number(reply), number);
-            or_else(set_differs, other_transforms(set(0, reply), transforms))
+        Err(_) => Some(Difference::NothingChosen),
+        Ok(choice) => {
+            other_set(replied_number(reply), choice.set).or_else(|| other_transforms(
+                set(0, reply),
+                choice.transforms,
+            ))
         }
     }
 }
 
-// Which of the three cannot be read first.
-fn unread(booked: bool, book: &[u8], offer: &[u8], reply: &[u8]) -> Difference
-    ensures { result ≡ unread booked book.now offer.now reply.now }
+// Which of the three cannot be read first. All are read: what a closure that holds a book answers is known to no proof.
+fn unread(book: Option<&[u8]>, offer: &[u8], reply: &[u8]) -> Option<Difference>
+    ensures { difference_told result ≡ unread (is_some book.entry) (book_bytes book.entry) offer.now reply.now }
 {
-    let offer_unread = offer_refused(offer);
-    let reply_unread = reply_refused(reply);
-    if booked {
-        let book_unread = book_refused(book);
-        return or_else(or_else(offer_unread, book_unread), reply_unread);
-    }
-    or_else(offer_unread, reply_unread)
+    offer_refused(offer)
+        .or(book_refused(book))
+        .or(reply_refused(reply))
+}
+
+// What a book, where there is one, chooses instead.
+fn book_differs(book: Option<&[u8]>, exchange: u8, offer: &[u8], reply: &[u8]) -> Option<Difference>
+    ensures { difference_told result ≡ (if is_some book.entry then choice_differs reply.now (choose_from exchange (book_bytes book.entry) offer.now) otherwise Nothing) }
+{
+    choice_differs(reply, choose_from(exchange, book?, offer))
 }
 
 // What differs between the bodies of two SA payloads, that of the offer being of this exchange.
-fn compared(booked: bool, exchange: u8, book: &[u8], offer: &[u8], reply: &[u8]) -> Difference
-    ensures { result ≡ compared booked exchange book.now offer.now reply.now }
+fn compared(book: Option<&[u8]>, exchange: u8, offer: &[u8], reply: &[u8]) -> Option<Difference>
+    ensures { difference_told result ≡ compared (is_some book.entry) exchange (book_bytes book.entry) offer.now reply.now }
 {
-    let repeats = bodies_differ(offer, reply);
-    if booked {
-        let chosen = choose_from(exchange, book, offer);
-        return or_else(repeats, choice_differs(reply, chosen));
-    }
-    repeats
+    bodies_differ(offer, reply).or(book_differs(book, exchange, offer, reply))
 }
 
 // What differs first of a reply; a book is looked at only where there is one.
-pub fn first_difference(booked: bool, book: &[u8], offer: &[u8], reply: &[u8]) -> Difference
-    ensures { result ≡ first_difference booked book.now offer.now reply.now }
+pub fn first_difference(book: Option<&[u8]>, offer: &[u8], reply: &[u8]) -> Option<Difference>
+    ensures { difference_told result ≡ first_difference (is_some book.entry) (book_bytes book.entry) offer.now reply.now }
 {
-    let found = unread(booked, book, offer, reply);
-    match found {
-        Difference::Nothing => compared(
-            booked,
-            byte(offer, 18),
-            book,
-            sa_body(offer),
-            sa_body(reply),
-        ),
-        _ => found,
+    let found = unread(book, offer, reply);
+    if found.is_some() {
+        return found;
     }
-}
-
-fn lawful_by(difference: Difference) -> Lawfulness
-    ensures { result ≡ lawful_by difference }
-{
-    match difference {
-        Difference::Nothing => Lawfulness::Lawful,
-        Difference::OfferRefused(number) => Lawfulness::Refused(number),
-        Difference::BookRefused(number) => Lawfulness::Refused(number),
-        Difference::ReplyRefused(number) => Lawfulness::Refused(number),
-        Difference::OtherSet {
-            found: _,
-            chosen: _,
-        } => Lawfulness::Refused(14),
-        Difference::OtherTransform {
-            protocol: _,
-            found: _,
-            chosen: _,
-        } => Lawfulness::Refused(14),
-        Difference::NothingChosen => Lawfulness::Refused(14),
-        _ => Lawfulness::Refused(15),
-    }
+    compared(book, byte(offer, 18), sa_body(offer), sa_body(reply))
 }
 
 // Whether a reply is lawful: it repeats one offered set, with one offered transform in each proposal, and with a book takes what
 // that chooses.
-pub fn reply_lawful(booked: bool, book: &[u8], offer: &[u8], reply: &[u8]) -> Lawfulness
-    ensures { result ≡ reply_lawful booked book.now offer.now reply.now }
+pub fn reply_lawful(book: Option<&[u8]>, offer: &[u8], reply: &[u8]) -> Result<(), Refusal>
+    ensures { lawful_told result ≡ reply_lawful (is_some book.entry) (book_bytes book.entry) offer.now reply.now }
 {
-    lawful_by(first_difference(booked, book, offer, reply))
+    match first_difference(book, offer, reply) {
+        None => Ok(()),
+        Some(difference) => Err(difference.refusal()),
+    }
 }

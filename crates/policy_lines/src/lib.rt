@@ -7,14 +7,16 @@ ghost use Rattle.policy_lines.specs.Lines.{place, quick_start, quick_count, book
 use wire_read::{be32, byte};
 
 // Lines are counted from 1, among the main lines or among the quick lines; 0 is no line.
-#[derive(Clone, Copy)]
+#[derive(Clone, Copy, Debug, PartialEq, Eq)]
 pub struct LineNumber(pub u8);
 
-// The place of a line, counted from 0.
-pub fn place(line: LineNumber) -> u8
-    ensures { result ≡ place line }
-{
-    if line.0 == 0 { 0 } else { line.0 - 1 }
+impl LineNumber {
+    // The place of the line, counted from 0.
+    pub fn place(self) -> u8
+        ensures { result ≡ place self }
+    {
+        self.0.saturating_sub(1)
+    }
 }
 
 fn quick_start(book: &[u8]) -> u16

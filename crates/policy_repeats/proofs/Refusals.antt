@@ -14,13 +14,13 @@ use Rattle.sa_fields.specs.declared.ProposalNumber.{ProposalNumber}
 use Rattle.sa_fields.specs.declared.TransformNumber.{TransformNumber}
 use Rattle.sa_items.specs.Items.{proposal}
 use Rattle.sa_sets.specs.Sets.{set_count}
-use Rattle.policy_choice.specs.declared.Choice.{Choice}
-use Rattle.policy_choice.specs.declared.Choice.TheVariants as choices
+use Rattle.policy_choice.specs.Choice.{Choice}
+use Rattle.policy_choice.specs.Choice as choices
 use Rattle.policy_choice.specs.declared.Transforms.{Transforms}
 use Rattle.policy_choice.specs.declared.Transforms.TheVariants.{One, Two}
-use Rattle.policy_lawful.specs.declared.Difference.{Difference}
-use Rattle.policy_lawful.specs.declared.Difference.TheVariants.{Nothing, OfferRefused, BookRefused, ReplyRefused, SeveralSets, SetNotOffered, Protocols, Order, SeveralTransforms, TransformNotOffered, Id, Attributes, OtherSet, OtherTransform, NothingChosen}
-use Rattle.policy_lawful.specs.declared.Lawfulness.TheVariants.{Refused, Lawful}
+use Rattle.policy_lawful.specs.Difference.{Difference}
+use Rattle.policy_lawful.specs.Difference.{Nothing, OfferRefused, BookRefused, ReplyRefused, SeveralSets, SetNotOffered, Protocols, Order, SeveralTransforms, TransformNotOffered, Id, Attributes, OtherSet, OtherTransform, NothingChosen}
+use Rattle.policy_lawful.specs.Difference.{Refused, Lawful}
 use Rattle.policy_lawful.specs.Lawful.{◌or_else◌, replied_transform, offered_transform, several_transforms, transform_not_offered, other_id, other_attributes, last, same_protocols, same_order, protocols_differ, transforms_differ, replied_set, replied_number, offered_set, sets_differ, bodies_differ, other_transform, other_transforms, other_set, choice_differs, lawful_by}
 
 -- what differs is refused, so nothing behind it counts

@@ -26,12 +26,12 @@ use Rattle.sa_found.proofs.FoundLaws.{set-some, set-few, set_found, transform-fo
 use Rattle.policy_lines.specs.declared.LineNumber.{LineNumber}
 use Rattle.policy_suiting.proofs.Laws.{Passed, suits_passed}
 use Rattle.policy_choice.specs.Choice.{transforms_of, chosen, choose_from}
-use Rattle.policy_choice.specs.declared.Choice.{Choice}
-use Rattle.policy_choice.specs.declared.Choice.TheVariants as choices
+use Rattle.policy_choice.specs.Choice.{Choice}
+use Rattle.policy_choice.specs.Choice as choices
 use Rattle.policy_choice.specs.declared.Transforms.{Transforms}
 use Rattle.policy_choice.specs.declared.Transforms.TheVariants.{One, Two}
 use Rattle.policy_choice.proofs.Laws.{Choosing, fourteen, chose, choosing}
-use Rattle.policy_lawful.specs.declared.Difference.TheVariants.{Nothing}
+use Rattle.policy_lawful.specs.Difference.{Nothing}
 use Rattle.policy_lawful.specs.Lawful.{replied_transform, offered_transform, several_transforms, transform_not_offered, other_id, other_attributes, last, has_protocol, same_protocols, same_order, protocols_differ, transforms_differ, replied_set, replied_number, offered_set, sets_differ, bodies_differ, other_transform, other_transforms, other_set, choice_differs}
 use Rattle.policy_repeats.proofs.Refusals.{neither_differs, nothing_differs}
 use Rattle.policy_repeats.specs.Repeats.{content, RepeatsProposal, RepeatsSet, RepeatsOffer, Takes, one, two, IsChoice}

@@ -20,7 +20,7 @@ use Rattle.policy_lines.specs.declared.LineNumber.{LineNumber}
 use Rattle.policy_suits.specs.Suits.{lowest}
 use Rattle.policy_suiting.proofs.SuitLaws.{chosen_in, taken}
 use Rattle.policy_choice.specs.Choice.{number_of, lowest_number, transforms_of, choose_from}
-use Rattle.policy_choice.specs.declared.Choice.TheVariants.{Chosen}
+use Rattle.policy_choice.specs.Choice.{Chosen}
 use Rattle.policy_choice.specs.declared.Transforms.{Transforms}
 use Rattle.policy_reply.specs.Reply.{set_reply, sa_of, spis_low}
 use Rattle.policy_reply.proofs.ReplyLaws.{Repeats, reply_repeats}

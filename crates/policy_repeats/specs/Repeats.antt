@@ -9,7 +9,7 @@ use Rattle.policy_lines.specs.declared.LineNumber.{LineNumber}
 use Rattle.policy_choice.specs.Choice.{choose_from}
 use Rattle.policy_choice.specs.declared.Transforms.{Transforms}
 use Rattle.policy_choice.specs.declared.Transforms.TheVariants.{One, Two}
-use Rattle.policy_choice.specs.declared.Choice.TheVariants.{Chosen}
+use Rattle.policy_choice.specs.Choice.{Chosen}
 
 -- the bytes of a transform behind next, reserved and length
 abbrev pub content : (t : Bytes) → Bytes

@@ -1,2 +1,3 @@
 pub mod ReplyLaws
 pub mod ReplyWays
+pub mod Told

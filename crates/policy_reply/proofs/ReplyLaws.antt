@@ -30,9 +30,9 @@ use Rattle.sa_sets.proofs.Laws.{Same, same_end, same-on}
 use Rattle.sa_items.proofs.Laws.{transform-lawful}
 use Rattle.sa_sets.proofs.Places.{LawfulSet, OneSet, one_set}
 use Rattle.policy_reply.specs.Reply.{own_spi, fields, proposal_of, proposal_reply, set_reply, sa_of, spi_low, spis_low, set_replied, choice_replied, replied}
-use Rattle.policy_reply.specs.declared.Outcome.TheVariants.{Written}
+use Rattle.policy_reply.specs.Reply.{Written}
 use Rattle.policy_lines.specs.declared.LineNumber.{LineNumber}
-use Rattle.policy_choice.specs.declared.Choice.TheVariants.{Chosen}
+use Rattle.policy_choice.specs.Choice.{Chosen}
 use Rattle.policy_choice.specs.declared.Transforms.{Transforms}
 use Rattle.policy_choice.specs.declared.Transforms.TheVariants.{One, Two}
 use Rattle.policy_choice.specs.Choice.{number_of, transforms_of, sa_from, choice}

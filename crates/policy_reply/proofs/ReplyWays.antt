@@ -2,11 +2,11 @@
 use Prim.Native.Nat.{ℕ, ◌+◌, ◌≤◌, ◌<◌}
 use mathlib.Core.Path.{◌≡◌, sym, ap, ◌∙◌}
 use mathlib.Core.List.{List, [], ◌∷◌, ◌++◌}
-use mathlib.Core.Bool.{Bool, true, false, ◌||◌}
+use mathlib.Core.Bool.{Bool, true, false, ◌||◌, or-false}
 use native.Mathlib.Omega.{arith}
 use lib.ListN.{length, drop, length-drop, length-append}
-use lib.Dec.{eqb}
-use borrow.Author.Tests.{eq-eqb, ne_eqb, lt-ltb, le-ltb}
+use lib.Dec.{eqb, ltb}
+use borrow.Author.Tests.{eq-eqb, ne_eqb, eqb-true, lt-ltb, le-ltb}
 use Rattle.wire_write.specs.Put.{bytes_of, head, headed, paste, put}
 use Rattle.wire_read.proofs.Tests.{by_test}
 use Rattle.wire_write.proofs.Laws.{length_bytes_of, length_head, length_headed, paste-append, put-size, put-after, put_before, put-head-last}
@@ -17,30 +17,48 @@ use Rattle.sa_fields.specs.declared.ProposalNumber.{ProposalNumber}
 use Rattle.sa_fields.specs.declared.TransformNumber.{TransformNumber}
 use Rattle.sa_items.proofs.Laws.{transform-within, two-within}
 use Rattle.policy_choice.specs.Choice.{sa_from, choice}
-use Rattle.policy_reply.specs.Reply.{own_spi, fields, proposal_of, proposal_reply, set_reply, sa_of, spi_low, spis_low, set_replied, choice_replied, replied, choice_refusal}
+use Rattle.policy_reply.specs.Reply.{spi_of, own_spi, fields, proposal_of, proposal_reply, set_reply, sa_of, spi_low, spis_low, set_replied, choice_replied, replied}
 use Rattle.policy_lines.specs.declared.LineNumber.{LineNumber}
 use Rattle.policy_choice.specs.declared.Transforms.{Transforms}
 use Rattle.policy_choice.specs.declared.Transforms.TheVariants.{One, Two}
-use Rattle.policy_choice.specs.declared.Choice.{Choice}
-use Rattle.policy_choice.specs.declared.Choice.TheVariants as choices
-use Rattle.policy_reply.specs.declared.Outcome.{Outcome}
-use Rattle.policy_reply.specs.declared.Outcome.TheVariants.{Refused, Written}
+use Rattle.policy_choice.specs.Choice.{Choice}
+use Rattle.policy_choice.specs.Choice as choices
+use Rattle.policy_reply.specs.Reply.{Outcome, Refused, Written, outcome_told}
+use Rattle.std.specs.Prelude.{Option, Some, None}
 
 -- ---- an own SPI
 
-module _ (l b : List ℕ) (at ah esp protocol : ℕ) where
-  pub spi-ah : protocol ≡ 2 → b ≡ paste l at (bytes_of 4 ah) → put l at (own_spi ah esp protocol) ≡ (4, b)
-  unfolding put own_spi
-  spi-ah h e = rw (eq-eqb protocol 2 h, length_bytes_of 4 ah, ← e)
+module _ (ah esp protocol : ℕ) where
+  pub spi-ah : protocol ≡ 2 → Some ah ≡ spi_of ah esp protocol
+  unfolding spi_of
+  spi-ah h = rw (eq-eqb protocol 2 h)
 
-  module _ (other : protocol ≡ 2 → ⊥) where
-    pub spi-esp : protocol ≡ 3 → b ≡ paste l at (bytes_of 4 esp) → put l at (own_spi ah esp protocol) ≡ (4, b)
-    unfolding put own_spi
-    spi-esp h e = rw (ne_eqb protocol 2 other, eq-eqb protocol 3 h, length_bytes_of 4 esp, ← e)
+  pub spi-esp : protocol ≡ 3 → Some esp ≡ spi_of ah esp protocol
+  unfolding spi_of
+  spi-esp h = rw h
 
-  pub spi-none : (protocol ≡ 2 → ⊥) → (protocol ≡ 3 → ⊥) → put l at (own_spi ah esp protocol) ≡ (0, l)
-  unfolding put own_spi paste
+  pub spi-none : (protocol ≡ 2 → ⊥) → (protocol ≡ 3 → ⊥) → None ≡ spi_of ah esp protocol
+  unfolding spi_of
   spi-none other h = rw (ne_eqb protocol 2 other, ne_eqb protocol 3 h)
+
+-- the bytes of the own SPI of a protocol, none where it has none
+spi_bytes : (own : Option ℕ) → List ℕ
+spi_bytes (Some spi) = bytes_of 4 spi
+spi_bytes None = []
+
+own_bytes : (ah esp protocol : ℕ) → own_spi ah esp protocol ≡ spi_bytes (spi_of ah esp protocol)
+unfolding own_spi spi_of spi_bytes
+own_bytes ah esp protocol =
+    by_test (eqb protocol 2) (λ e. rw e) (λ e. by_test (eqb protocol 3) (λ f. rw (e, f)) (λ f. rw (e, f)))
+
+module _ (l : List ℕ) (at ah esp protocol : ℕ) (own : Option ℕ) (eo : own ≡ spi_of ah esp protocol) where
+  pub spi-unwritten : own ≡ None → put l at (own_spi ah esp protocol) ≡ (0, l)
+  unfolding put paste spi_bytes
+  spi-unwritten h = rw (own_bytes ah esp protocol, ← eo, h)
+
+  pub spi-written : (spi : ℕ) → own ≡ Some spi → (b : List ℕ) → b ≡ paste l at (bytes_of 4 spi) → put l at (own_spi ah esp protocol) ≡ (4, b)
+  unfolding put spi_bytes
+  spi-written spi h b e = rw (own_bytes ah esp protocol, ← eo, h, length_bytes_of 4 spi, ← e)
 
 -- ---- a proposal
 
@@ -175,6 +193,27 @@ sa_written l b at n proposals e next c d f g =
 
 -- ---- own SPIs
 
+-- whether it is below 256
+spi_below : (own : Option ℕ) → Bool
+spi_below (Some spi) = ltb spi 256
+spi_below None = false
+
+below-is : (ah esp protocol : ℕ) → spi_below (spi_of ah esp protocol) ≡ spi_low ah esp protocol
+unfolding spi_of spi_low spi_below
+below-is ah esp protocol =
+    by_test (eqb protocol 2)
+    (λ e. let other : eqb protocol 3 ≡ false = rw (eqb-true protocol 2 e) in rw (e, other, or-false))
+    (λ e. by_test (eqb protocol 3) (λ f. rw (e, f)) (λ f. rw (e, f)))
+
+module _ (ah esp protocol : ℕ) (own : Option ℕ) (eo : own ≡ spi_of ah esp protocol) where
+  pub low-some : (spi : ℕ) → own ≡ Some spi → ltb spi 256 ≡ spi_low ah esp protocol
+  unfolding spi_below
+  low-some spi h = ap spi_below (sym h ∙ eo) ∙ below-is ah esp protocol
+
+  pub low-none : own ≡ None → false ≡ spi_low ah esp protocol
+  unfolding spi_below
+  low-none h = ap spi_below (sym h ∙ eo) ∙ below-is ah esp protocol
+
 module _ (ah esp : ℕ) (s p : List ℕ) (k : ℕ) (low : Bool) (ep : p ≡ proposal 0 s) (ek : k ≡ protocol p) (el : low ≡ spi_low ah esp k) where
   pub low_one : (transforms : Transforms) (t : TransformNumber) → transforms ≡ One t → low ≡ spis_low ah esp transforms s
   unfolding spis_low
@@ -192,17 +231,16 @@ module _ (book m l : List ℕ) (ah esp : ℕ) where
   unfolding replied
   reply_small h = rw (lt-ltb (length l) 2048 h)
 
-  module _ (room : 2048 ≤ length l) (c : Choice) (ec : c ≡ choice book m) where
-    pub reply_refused_lem : (number : ℕ) → c ≡ choices.Refused number → (r : Outcome) → r ≡ choice_refusal c → replied book m ah esp l ≡ (r, l)
-    unfolding replied choice_replied choice_refusal
-    reply_refused_lem number h r e = rw (le-ltb (length l) 2048 room, ← ec, e, h)
+  module _ (room : 2048 ≤ length l) where
+    pub reply_refused_lem : (number : ℕ) → choices.Refused number ≡ choice book m → (r : Outcome) → r ≡ Refused number → replied book m ah esp l ≡ (r, l)
+    unfolding replied choice_replied
+    reply_refused_lem number h r e = rw (le-ltb (length l) 2048 room, ← h, e)
 
-    module _ (number : ProposalNumber) (line : LineNumber) (transforms : Transforms) (chosen : c ≡ choices.Chosen number line transforms) (body s : List ℕ)
-        (eb : body ≡ sa_from 32 0 m) (es : s ≡ set_numbered number body)
-        (low : Bool) (el : low ≡ spis_low ah esp transforms s) where
+    module _ (number : ProposalNumber) (line : LineNumber) (transforms : Transforms) (chosen : choices.Chosen number line transforms ≡ choice book m)
+        (body s : List ℕ) (eb : body ≡ sa_from 32 0 m) (es : s ≡ set_numbered number body) (low : Bool) (el : low ≡ spis_low ah esp transforms s) where
       pub reply_low : low ≡ true → replied book m ah esp l ≡ (Refused 11, l)
       unfolding replied choice_replied set_replied
-      reply_low h = rw (le-ltb (length l) 2048 room, ← ec, chosen, ← eb, ← es, ← el, h)
+      reply_low h = rw (le-ltb (length l) 2048 room, ← chosen, ← eb, ← es, ← el, h)
 
       pub reply_written : low ≡ false → (n : ℕ) (b : List ℕ) → put l 0 (sa_of 0 (set_reply ah esp transforms s)) ≡ (n, b) →
           replied book m ah esp l ≡ (Written n, b)
@@ -210,4 +248,4 @@ module _ (book m l : List ℕ) (ah esp : ℕ) where
       reply_written h n b e =
           let en : length (sa_of 0 (set_reply ah esp transforms s)) ≡ n = ap (λ (p : ℕ × List ℕ). p.0) e in
           let ew : paste l 0 (sa_of 0 (set_reply ah esp transforms s)) ≡ b = ap (λ (p : ℕ × List ℕ). p.1) e in
-          rw (le-ltb (length l) 2048 room, ← ec, chosen, ← eb, ← es, ← el, h, en, ew)
+          rw (le-ltb (length l) 2048 room, ← chosen, ← eb, ← es, ← el, h, en, ew)

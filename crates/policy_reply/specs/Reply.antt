@@ -1,6 +1,6 @@
 -- The reply, document 01: "The reply repeats numbers and transform bytes as offered, one transform each, next fields and lengths set anew,
 -- own SPIs. Alone it is an SA payload, next 0, at a lent buffer's start: 8192, the checks above, then a used own SPI below 256: 11."
-use Rattle.std.specs.Prelude.{ℕ, ◌+◌, [], ◌∷◌, ◌++◌, Bool, ◌||◌, ◌&&◌, length, drop, ltb, eqb}
+use Rattle.std.specs.Prelude.{ℕ, Option, Some, None, Result, Ok, Err, ◌+◌, [], ◌∷◌, ◌++◌, Bool, ◌||◌, ◌&&◌, length, drop, ltb, eqb}
 use Rattle.wire_read.specs.Wire.{Bytes}
 use Rattle.wire_write.specs.Put.{bytes_of, head, headed, paste}
 use Rattle.wire_read.specs.Tests.{if◌then◌otherwise◌}
@@ -12,10 +12,23 @@ use Rattle.sa_fields.specs.declared.TransformNumber.{TransformNumber}
 use Rattle.policy_choice.specs.Choice.{sa_from, choice}
 use Rattle.policy_choice.specs.declared.Transforms.{Transforms}
 use Rattle.policy_choice.specs.declared.Transforms.TheVariants.{One, Two}
-use Rattle.policy_choice.specs.declared.Choice.{Choice}
-use Rattle.policy_choice.specs.declared.Choice.TheVariants as choices
-use Rattle.policy_reply.specs.declared.Outcome.{Outcome}
-use Rattle.policy_reply.specs.declared.Outcome.TheVariants.{Refused, Written}
+use Rattle.policy_choice.specs.Choice.{Choice}
+use Rattle.policy_choice.specs.Choice as choices
+use Rattle.refusal.specs.declared.Refusal.{Refusal}
+use Rattle.refusal.specs.Numbers as refusals
+
+-- what is answered, a refusal or how many bytes were written, and what the code says so by
+pub data Outcome : Type 0 where
+  Refused : (number : ℕ) → Outcome
+  Written : (size : ℕ) → Outcome
+
+abbrev pub outcome_told : (answer : Result ℕ Refusal) → Outcome
+outcome_told (Ok size) = Written size
+outcome_told (Err refusal) = Refused (refusals.number refusal)
+
+-- the own SPI of a protocol, which 1 has none of
+unfoldable pub spi_of : (ah esp protocol : ℕ) → Option ℕ
+spi_of ah esp protocol = if eqb protocol 2 then Some ah otherwise if eqb protocol 3 then Some esp otherwise None
 
 -- "own SPIs": AH's in a proposal for AH, ESP's in one for ESP, none with exchange 2
 unfoldable pub own_spi : (ah esp protocol : ℕ) → Bytes
@@ -67,11 +80,6 @@ unfoldable pub replied : (book m : Bytes) (ah esp : ℕ) (buffer : Bytes) → Ou
 replied book m ah esp buffer =
     if ltb (length buffer) 2048 then (Refused 8192, buffer)
     otherwise choice_replied ah esp m (choice book m) buffer
-
--- the refusal of a choice that was refused; it is asked of no other
-unfoldable pub choice_refusal : (chosen : Choice) → Outcome
-choice_refusal (choices.Refused number) = Refused number
-choice_refusal (choices.Chosen number line transforms) = Refused 0
 
 -- the paper's number and values for each case
 unfoldable pub reply_answer : (outcome : Outcome) → Answer

@@ -1,12 +1,11 @@
 -- A law for each way out of the functions on what suits.
 use Prim.Native.Nat.{ℕ, zero, suc, ◌+◌, ◌-◌, ◌≤◌, ◌<◌}
-use mathlib.Core.Path.{◌≡◌, refl, sym, ap, ◌∙◌}
+use mathlib.Core.Path.{◌≡◌, refl, sym, ◌∙◌}
 use mathlib.Core.List.{List, []}
 use mathlib.Core.Bool.{Bool, true, false, not, ◌&&◌, ◌||◌, and-false}
 use native.Mathlib.Omega.{arith}
 use native.Mathlib.Numerals.{add-one}
-use lib.ListN.{length, take, drop, length-drop}
-use lib.Seq.{drop-drop}
+use lib.ListN.{length, take, drop}
 use lib.Dec.{ltb, leb, eqb}
 use borrow.Author.Tests.{eq-eqb, ne_eqb, lt-ltb, le-ltb, le-leb, not-true, not-false}
 use Rattle.wire_read.specs.Tests.{if◌then◌otherwise◌}
@@ -21,9 +20,7 @@ use Rattle.wire_read.specs.Parts.{skip}
 use Rattle.sa_items.specs.Items.{first_item, after_item, transform, proposal, proposal_count}
 use Rattle.policy_lines.specs.Lines.{place, main_seconds, quick_protocols, quick_mode, quick_seconds}
 use Rattle.policy_lines.specs.declared.LineNumber.{LineNumber}
-use Rattle.policy_suits.specs.declared.SuitingTransform.{SuitingTransform}
-use Rattle.policy_suits.specs.declared.SuitingTransform.TheVariants.{None, Lowest}
-use Rattle.policy_suits.proofs.Found.{none_found, lowest-found}
+use Rattle.std.specs.Prelude.{Option, None, Some, is_some}
 use Rattle.policy_suits.specs.Suits.{present, value_is, is_unit, find_duration, seconds_of, kilobytes_of, seconds_within, has_kilobytes, kilobytes_some, nothing_surplus, main_values, quick_id, quick_authentication, main_suits, quick_suits, suits_quick_line, suits_line, transform_suits, lowest_from, lowest, has_transform, lowest_transform, lowest_in, protocols_alone, protocols_both, protocols_suit, set_suits}
 
 pub value_found : (attributetype wanted : ℕ) (attributes found : List ℕ) (v : ℕ) → found ≡ attribute attributetype attributes → v ≡ value found →
@@ -40,48 +37,35 @@ module _ (lifetype unit : ℕ) (s : List ℕ) (t : ℕ) (et : t ≡ attribute_ty
   pub unit_value : t ≡ lifetype → (v : ℕ) → v ≡ value s → eqb v unit ≡ is_unit lifetype unit s
   unit_value h v ev = rw (← et, ← ev, eq-eqb t lifetype h)
 
-duration-step : (left lifetype unit : ℕ) (s : List ℕ) → (left ≡ 0 → ⊥) →
-    find_duration left lifetype unit s
-    ≡ (if ltb (length s) 4 then []
-    otherwise if is_unit lifetype unit s then take (attribute_size (after_attribute s)) (after_attribute s)
-    otherwise find_duration (left - 1) lifetype unit (after_attribute s))
-unfolding find_duration
-duration-step zero lifetype unit s h = absurd (h refl)
-duration-step (suc left) lifetype unit s h = let i : suc left - 1 ≡ left = omega arith in rw i
+-- after `passed` of the `most` attributes, from which on the search goes the way it goes from the start
+module _ (most passed lifetype unit : ℕ) (rest goal : List ℕ) (so_far : find_duration (most - passed) lifetype unit rest ≡ goal) where
+  pub duration-out : most ≤ passed → [] ≡ goal
+  unfolding find_duration
+  duration-out h =
+      let e : most - passed ≡ 0 = omega arith in
+      rw e at so_far
 
-duration-none : (left lifetype unit : ℕ) (s : List ℕ) → length s < 4 → [] ≡ find_duration left lifetype unit s
-unfolding find_duration
-duration-none zero lifetype unit s h = refl
-duration-none (suc left) lifetype unit s h = rw (lt-ltb (length s) 4 h)
-
--- at a place in s, from which on the search goes the way it goes from the start
-module _ (left lifetype unit at : ℕ) (s goal : List ℕ) (so_far : find_duration left lifetype unit (drop at s) ≡ goal) where
-  module _ (empty : List ℕ) (e : empty ≡ take 0 s) where
-    pub duration-out : left ≡ 0 → empty ≡ goal
+  module _ (more : passed < most) where
+    duration-step : goal ≡ (if ltb (length rest) 4 then []
+        otherwise if is_unit lifetype unit rest then take (attribute_size (after_attribute rest)) (after_attribute rest)
+        otherwise find_duration (most - (passed + 1)) lifetype unit (after_attribute rest))
     unfolding find_duration
-    duration-out z = e ∙ (rw z at so_far)
+    duration-step =
+        let e : most - passed ≡ suc (most - (passed + 1)) = omega arith in
+        sym (rw e at so_far)
 
-    pub duration-end : (here : List ℕ) → here ≡ drop at s → length here < 4 → empty ≡ goal
-    duration-end here eh h = e ∙ duration-none left lifetype unit (drop at s) (rw (← eh) h) ∙ so_far
+    pub duration-end : length rest < 4 → [] ≡ goal
+    duration-end h = rw (duration-step, lt-ltb (length rest) 4 h)
 
-  module _ (may : left ≡ 0 → ⊥) (here : List ℕ) (eh : here ≡ drop at s) (long : 4 ≤ length here) (n : ℕ) (en : n ≡ attribute_size here)
-      (behind : List ℕ) (eb : behind ≡ drop n here) (unit-here : Bool) (eu : unit-here ≡ is_unit lifetype unit here) where
-    step : goal ≡ (if unit-here then take (attribute_size behind) behind otherwise find_duration (left - 1) lifetype unit behind)
-    unfolding after_attribute
-    step = sym so_far ∙ duration-step left lifetype unit (drop at s) may ∙ rw (← eh, le-ltb (length here) 4 long, ← eu, ← en, ← eb)
+    module _ (long : 4 ≤ length rest) (n : ℕ) (en : n ≡ attribute_size rest) (behind : List ℕ) (eb : behind ≡ drop n rest) (unit-here : Bool)
+        (eu : unit-here ≡ is_unit lifetype unit rest) where
+      pub duration-here : unit-here ≡ true → (m : ℕ) → m ≡ attribute_size behind → (r : List ℕ) → r ≡ take m behind → r ≡ goal
+      unfolding after_attribute
+      duration-here h m em r e = rw (duration-step, le-ltb (length rest) 4 long, ← eu, h, ← en, ← eb, ← em) e
 
-    pub duration-here : unit-here ≡ true → (m : ℕ) → m ≡ attribute_size behind → (r : List ℕ) → r ≡ take m behind → r ≡ goal
-    duration-here h m em r e = rw (step, h, ← em) e
-
-    module _ (other : unit-here ≡ false) where
-      on : find_duration (left - 1) lifetype unit behind ≡ goal
-      on = rw (step, other)
-
-      pub duration_past : length here < n → (empty : List ℕ) → empty ≡ take 0 s → empty ≡ goal
-      duration_past h empty e = e ∙ duration-none (left - 1) lifetype unit behind (omega (arith, ap length eb ∙ length-drop n here)) ∙ on
-
-      pub duration-on : find_duration (left - 1) lifetype unit (drop (at + n) s) ≡ goal
-      duration-on = rw (← drop-drop n at s, ← eh, ← eb) on
+      pub duration-on : unit-here ≡ false → find_duration (most - (passed + 1)) lifetype unit behind ≡ goal
+      unfolding after_attribute
+      duration-on h = rw (duration-step, le-ltb (length rest) 4 long, ← eu, h, ← en, ← eb)
 
 pub seconds-found : (lifetype longest : ℕ) (attributes found : List ℕ) (v : ℕ) → found ≡ seconds_of lifetype attributes → v ≡ value found →
     (leb 4 (length found) && leb 1 v && leb v longest) ≡ seconds_within lifetype longest attributes
@@ -182,33 +166,10 @@ module _ (exchange : ℕ) (line : LineNumber) (book : List ℕ) (protocol : ℕ)
   unfolding suits_line
   quick-line h e = rw (ne_eqb exchange 2 h) e
 
-in_step : (n exchange i : ℕ) (book : List ℕ) (protocol : ℕ) (rest : List ℕ) → (n ≡ 0 → ⊥) →
-    lowest_in n exchange i book protocol rest ≡ (if suits_line exchange i book protocol (first_item rest) then Lowest (transform_number (first_item rest))
-    otherwise lowest_in (n - 1) exchange i book protocol (after_item rest))
-unfolding lowest_in
-in_step zero exchange i book protocol rest h = absurd (h refl)
-in_step (suc n) exchange i book protocol rest h = let e : suc n - 1 ≡ n = omega arith in rw e
-
-module _ (n exchange i : ℕ) (book : List ℕ) (protocol : ℕ) (rest : List ℕ) where
-  pub lowest-none : n ≡ 0 → None ≡ lowest_in n exchange i book protocol rest
-  unfolding lowest_in
-  lowest-none z = rw z
-
-  module _ (some : n ≡ 0 → ⊥) (size : ℕ) (es : size ≡ number_at 2 rest 2) (t : List ℕ) (et : t ≡ take size rest) (b : Bool)
-      (eb : b ≡ suits_line exchange i book protocol t) where
-    pub lowest-here : b ≡ true → (number : TransformNumber) → number ≡ transform_number t → Lowest number ≡ lowest_in n exchange i book protocol rest
-    unfolding first_item
-    lowest-here h number en = rw (in_step n exchange i book protocol rest some, ← es, ← et, ← eb, h, ← en)
-
-    pub lowest-on : b ≡ false → (behind : List ℕ) → behind ≡ drop size rest → (r : SuitingTransform) →
-        r ≡ lowest_in (n - 1) exchange i book protocol behind → r ≡ lowest_in n exchange i book protocol rest
-    unfolding first_item after_item
-    lowest-on h behind ea r e = rw (in_step n exchange i book protocol rest some, ← es, ← et, ← eb, h, ← ea) e
-
 -- the transforms that lie behind the first k are those from place k on
 module _ (exchange i : ℕ) (book p : List ℕ) where
-  abbrev named : ℕ → SuitingTransform
-  named k = if leb 1 k then Lowest (transform_number (transform (k - 1) p)) otherwise None
+  abbrev named : ℕ → Option TransformNumber
+  named k = if leb 1 k then Some (transform_number (transform (k - 1) p)) otherwise None
 
   in_places : (n k : ℕ) → lowest_in n exchange i book (protocol p) (skip after_item k (transform_bytes p)) ≡ named (lowest_from n k exchange i book p)
   unfolding lowest_in lowest_from transform_suits transform
@@ -221,17 +182,40 @@ module _ (exchange i : ℕ) (book p : List ℕ) where
       (λ h. rw (h, le-leb 1 (k + 1) (omega arith), back))
       (λ h. rw (h, ← next) (in_places n (k + 1)))
 
-  pub lowest-all : (n number : ℕ) (all : List ℕ) (r : SuitingTransform) → n ≡ transform_count p → number ≡ protocol p → all ≡ transform_bytes p →
-      r ≡ lowest_in n exchange i book number all → r ≡ lowest_transform exchange i book p
+  pub lowest-begin : (n number : ℕ) (rest : List ℕ) → n ≡ transform_count p → number ≡ protocol p → rest ≡ transform_bytes p →
+      lowest_in (n - 0) exchange i book number rest ≡ lowest_transform exchange i book p
   unfolding lowest_transform lowest skip
-  lowest-all n number all r en eu ea e = (rw (en, eu, ea) at e) ∙ in_places (transform_count p) 0
+  lowest-begin n number rest en eu er =
+      let all : n - 0 ≡ n = omega arith in
+      rw (all, en, eu, er) (in_places (transform_count p) 0)
 
-  module _ (found : SuitingTransform) (ef : found ≡ lowest_transform exchange i book p) where
-    pub has-none : found ≡ None → false ≡ has_transform exchange i book p
-    has-none h = sym (none_found exchange i book p (sym ef ∙ h))
+  pub has-found : (found : Option TransformNumber) (has : Bool) → found ≡ lowest_transform exchange i book p → has ≡ is_some found →
+      has ≡ has_transform exchange i book p
+  unfolding lowest_transform
+  has-found found has ef eh = eh ∙ (rw ef (by_test (has_transform exchange i book p) (λ h. rw h) (λ h. rw h)))
 
-    pub has-lowest : (number : TransformNumber) → found ≡ Lowest number → true ≡ has_transform exchange i book p
-    has-lowest number h = sym (lowest-found exchange i book p number (sym ef ∙ h)).0
+-- after `passed` of the n transforms
+module _ (n passed exchange i : ℕ) (book : List ℕ) (protocol : ℕ) (rest : List ℕ) (goal : Option TransformNumber)
+    (so_far : lowest_in (n - passed) exchange i book protocol rest ≡ goal) where
+  pub lowest-out : n ≤ passed → None ≡ goal
+  unfolding lowest_in
+  lowest-out h =
+      let e : n - passed ≡ 0 = omega arith in
+      rw e at so_far
+
+  module _ (more : passed < n) (size : ℕ) (es : size ≡ number_at 2 rest 2) (t : List ℕ) (et : t ≡ take size rest) (b : Bool)
+      (eb : b ≡ suits_line exchange i book protocol t) where
+    in_step : goal ≡ (if b then Some (transform_number t) otherwise lowest_in (n - (passed + 1)) exchange i book protocol (drop size rest))
+    unfolding lowest_in first_item after_item
+    in_step =
+        let e : n - passed ≡ suc (n - (passed + 1)) = omega arith in
+        rw (eb, et, es) (sym (rw e at so_far))
+
+    pub lowest-here : b ≡ true → (number : TransformNumber) → number ≡ transform_number t → Some number ≡ goal
+    lowest-here h number en = rw (in_step, h, ← en)
+
+    pub lowest-on : b ≡ false → (behind : List ℕ) → behind ≡ drop size rest → lowest_in (n - (passed + 1)) exchange i book protocol behind ≡ goal
+    lowest-on h behind ea = rw (in_step, h, ← ea)
 
 module _ (set p : List ℕ) (count first : ℕ) (ec : count ≡ proposal_count set) (ep : p ≡ proposal 0 set) (ef : first ≡ protocol p) where
   pub one-protocol : (wanted : ℕ) → (eqb count 1 && eqb first wanted) ≡ protocols_alone wanted set

@@ -1,13 +1,12 @@
 -- Which transform, and which set, suits which line, document 01, "Policy book and choice", with document 02, "Two lifetimes in one offer".
-use Rattle.std.specs.Prelude.{ℕ, zero, suc, ◌+◌, ◌-◌, [], Bool, not, ◌||◌, ◌&&◌, length, take, ltb, leb, eqb}
+use Rattle.std.specs.Prelude.{ℕ, zero, suc, ◌+◌, ◌-◌, [], Bool, not, ◌||◌, ◌&&◌, length, take, ltb, leb, eqb, Option, None, Some}
 use Rattle.wire_read.specs.Wire.{Bytes}
 use Rattle.wire_read.specs.Tests.{if◌then◌otherwise◌}
 use Rattle.policy_lines.specs.Lines.{main_seconds, quick_protocols, quick_mode, quick_seconds}
 use Rattle.sa_attribute.specs.Attributes.{attribute_type, attribute_size, after_attribute, attribute, attribute_count, value}
+use Rattle.sa_fields.specs.declared.TransformNumber.{TransformNumber}
 use Rattle.sa_fields.specs.Fields.{protocol, transform_count, transform_number, transform_id, attributes_of}
 use Rattle.sa_items.specs.Items.{first_item, after_item, proposal, proposal_count, transform}
-use Rattle.policy_suits.specs.declared.SuitingTransform.{SuitingTransform}
-use Rattle.policy_suits.specs.declared.SuitingTransform.TheVariants.{None, Lowest}
 
 -- an attribute is there, or is there with this value
 unfoldable pub present : (attributetype : ℕ) (attributes : Bytes) → Bool
@@ -104,14 +103,14 @@ abbrev pub has_transform : (exchange i : ℕ) (book p : Bytes) → Bool
 has_transform exchange i book p = leb 1 (lowest exchange i book p)
 
 -- the lowest transform that suits, by its number
-unfoldable pub lowest_transform : (exchange i : ℕ) (book p : Bytes) → SuitingTransform
-lowest_transform exchange i book p = if has_transform exchange i book p then Lowest (transform_number (transform (lowest exchange i book p - 1) p)) otherwise None
+unfoldable pub lowest_transform : (exchange i : ℕ) (book p : Bytes) → Option TransformNumber
+lowest_transform exchange i book p = if has_transform exchange i book p then Some (transform_number (transform (lowest exchange i book p - 1) p)) otherwise None
 
 -- the same among the n transforms that lie in rest, in a proposal of this protocol
-unfoldable pub lowest_in : (n exchange i : ℕ) (book : Bytes) (protocol : ℕ) (rest : Bytes) → SuitingTransform
+unfoldable pub lowest_in : (n exchange i : ℕ) (book : Bytes) (protocol : ℕ) (rest : Bytes) → Option TransformNumber
 lowest_in zero exchange i book protocol rest = None
 lowest_in (suc n) exchange i book protocol rest =
-    if suits_line exchange i book protocol (first_item rest) then Lowest (transform_number (first_item rest))
+    if suits_line exchange i book protocol (first_item rest) then Some (transform_number (first_item rest))
     otherwise lowest_in n exchange i book protocol (after_item rest)
 
 -- "its protocols are exactly the line's": 1 in exchange 2, ESP alone, or AH with ESP in either order

@@ -1,11 +1,12 @@
 // Which transform, and which set, suits which line of the book.
+// Exchange, line and book stay three parameters: as one struct each caller would build it for one call, and each clause name it thrice.
 #![tactic(auto)]
 
 ghost use Rattle.std.specs.Prelude.{◌≡◌};
 ghost use Rattle.policy_lines.specs.Lines.{place};
-ghost use Rattle.policy_suits.specs.Suits.{value_is, is_unit, find_duration, seconds_within, has_kilobytes, kilobytes_some, nothing_surplus, main_values, main_suits, quick_id, quick_authentication, suits_quick_line, suits_line, lowest_in, lowest_transform, has_transform, protocols_alone, protocols_both, protocols_suit, set_suits};
+ghost use Rattle.policy_suits.specs.Suits.{value_is, is_unit, find_duration, seconds_within, has_kilobytes, kilobytes_some, nothing_surplus, main_values, main_suits, quick_id, quick_authentication, suits_quick_line, suits_line, lowest_transform, has_transform, protocols_alone, protocols_both, protocols_suit, set_suits};
 
-use policy_lines::{LineNumber, main_seconds, place, quick_mode, quick_protocols, quick_seconds};
+use policy_lines::{LineNumber, main_seconds, quick_mode, quick_protocols, quick_seconds};
 use sa_attribute::{attribute, attribute_count, attribute_size, attribute_type, value};
 use sa_fields::{
     TransformNumber, attributes_of, protocol, transform_count, transform_id, transform_number,
@@ -13,13 +14,6 @@ use sa_fields::{
 use sa_items::{proposal, proposal_count};
 use sa_proposals::transform_bytes;
 use wire_read::{after, be16, front};
-
-// The lowest transform of a proposal that suits a line. A transform's number may be 0, so that none is a case of its own.
-#[derive(Clone, Copy)]
-pub enum SuitingTransform {
-    None,
-    Lowest(TransformNumber),
-}
 
 pub fn value_is(attributetype: u16, wanted: u32, attributes: &[u8]) -> bool
     ensures { result ≡ value_is attributetype wanted attributes.now }
@@ -42,25 +36,18 @@ fn is_unit(lifetype: u16, unit: u32, s: &[u8]) -> bool
 pub fn find_duration(most: u8, lifetype: u16, unit: u32, s: &[u8]) -> &[u8]
     ensures { result.now ≡ find_duration most lifetype unit s.now }
 {
-    let mut left = most;
-    let mut at: usize = 0;
-    while left != 0 {
-        let here = after(s, at);
-        if here.len() < 4 {
-            return front(s, 0);
+    let mut rest = s;
+    for _passed in 0..most {
+        if rest.len() < 4 {
+            return &[];
         }
-        let n = attribute_size(here);
-        let behind = after(here, n);
-        if is_unit(lifetype, unit, here) {
+        let behind = after(rest, attribute_size(rest));
+        if is_unit(lifetype, unit, rest) {
             return front(behind, attribute_size(behind));
         }
-        if here.len() < n {
-            return front(s, 0);
-        }
-        at += n;
-        left -= 1;
+        rest = behind;
     }
-    front(s, 0)
+    &[]
 }
 
 pub fn seconds_within(lifetype: u16, longest: u32, attributes: &[u8]) -> bool
@@ -139,7 +126,7 @@ fn quick_suits(line: LineNumber, book: &[u8], protocol: u8, t: &[u8]) -> bool
     if transform_id(t) != quick_id(protocol) {
         return false;
     }
-    let i = place(line);
+    let i = line.place();
     // Lines differ most in their seconds, so the life is asked first, and the rest of the line read only where it suits.
     if !seconds_within(1, quick_seconds(i, book), attributes) {
         return false;
@@ -158,49 +145,33 @@ fn suits_line(exchange: u8, line: LineNumber, book: &[u8], protocol: u8, t: &[u8
     ensures { result ≡ suits_line exchange (place line) book.now protocol t.now }
 {
     if exchange == 2 {
-        return main_suits(main_seconds(place(line), book), t);
+        return main_suits(main_seconds(line.place(), book), t);
     }
     quick_suits(line, book, protocol, t)
 }
 
-// Of the n transforms that lie in `rest`, one behind the other.
-fn lowest_in(
-    n: u8,
-    exchange: u8,
-    line: LineNumber,
-    book: &[u8],
-    protocol: u8,
-    rest: &[u8],
-) -> SuitingTransform
-    ensures { result ≡ lowest_in n exchange (place line) book.now protocol rest.now }
-{
-    if n == 0 {
-        return SuitingTransform::None;
-    }
-    let size = be16(rest, 2) as usize;
-    let t = front(rest, size);
-    if suits_line(exchange, line, book, protocol, t) {
-        return SuitingTransform::Lowest(transform_number(t));
-    }
-    lowest_in(n - 1, exchange, line, book, protocol, after(rest, size))
-}
-
-// The lowest transform of proposal p that suits a line of the exchange.
-pub fn lowest(exchange: u8, line: LineNumber, book: &[u8], p: &[u8]) -> SuitingTransform
+// The lowest transform of proposal p that suits a line of the exchange: numbers rise, so it is the first.
+pub fn lowest(exchange: u8, line: LineNumber, book: &[u8], p: &[u8]) -> Option<TransformNumber>
     ensures { result ≡ lowest_transform exchange (place line) book.now p.now }
 {
-    let all = transform_bytes(p);
-    lowest_in(transform_count(p), exchange, line, book, protocol(p), all)
+    let count = transform_count(p);
+    let protocol = protocol(p);
+    let mut rest = transform_bytes(p);
+    for _passed in 0..count {
+        let size = be16(rest, 2) as usize;
+        let t = front(rest, size);
+        if suits_line(exchange, line, book, protocol, t) {
+            return Some(transform_number(t));
+        }
+        rest = after(rest, size);
+    }
+    None
 }
 
 fn has_transform(exchange: u8, line: LineNumber, book: &[u8], p: &[u8]) -> bool
     ensures { result ≡ has_transform exchange (place line) book.now p.now }
 {
-    let found = lowest(exchange, line, book, p);
-    match found {
-        SuitingTransform::None => false,
-        SuitingTransform::Lowest(_) => true,
-    }
+    lowest(exchange, line, book, p).is_some()
 }
 
 fn protocols_alone(wanted: u8, set: &[u8]) -> bool
@@ -223,7 +194,7 @@ pub fn protocols_suit(exchange: u8, line: LineNumber, book: &[u8], set: &[u8]) -
     if exchange == 2 {
         return protocols_alone(1, set);
     }
-    if quick_protocols(place(line), book) == 1 {
+    if quick_protocols(line.place(), book) == 1 {
         protocols_alone(3, set)
     } else {
         protocols_both(set)

@@ -1,4 +1,4 @@
--- The cause is `Suits` where and only where the test of policy_suits passes, of any bytes.
+-- There is no cause where and only where the test of policy_suits passes, of any bytes.
 use Prim.Native.Nat.{ℕ}
 use mathlib.Core.Path.{◌≡◌, refl}
 use mathlib.Core.List.{List, [], ◌∷◌}
@@ -6,6 +6,7 @@ use mathlib.Core.Bool.{Bool, true, false, not, ◌&&◌}
 use lib.ListN.{length}
 use lib.Dec.{leb, eqb}
 use borrow.Author.Tests.{eq-eqb}
+use Rattle.std.specs.Prelude.{Option, None, Some}
 use Rattle.wire_read.specs.Tests.{if◌then◌otherwise◌}
 use Rattle.wire_read.proofs.Tests.{never, both, by_test}
 use Rattle.policy_lines.specs.Lines.{main_seconds, quick_protocols, quick_mode, quick_seconds}
@@ -14,31 +15,25 @@ use Rattle.sa_fields.specs.Fields.{transform_id, attributes_of}
 use Rattle.policy_suits.specs.Suits.{present, value_is, seconds_of, seconds_within, kilobytes_some, nothing_surplus, main_values, main_suits, quick_id, quick_authentication, quick_suits, suits_line}
 use Rattle.policy_cause.specs.declared.Wish.{Wish}
 use Rattle.policy_cause.specs.declared.Cause.{Cause}
-use Rattle.policy_cause.specs.declared.Cause.TheVariants.{Suits, Id, Missing, Value, Surplus, Seconds, Kilobytes}
 use Rattle.policy_cause.specs.Causes.{◌or_else◌, wish_of, main_wanted, quick_wanted, wanted, wanted_count, first_cause, id_cause, is_there, missing_one, missing_cause, value_one, value_cause, surplus_cause, seconds_cause, kilobytes_cause, attributes_cause, wish_cause, transform_cause}
 use Rattle.policy_truth.proofs.Wishes.{main_wish, quick_wish}
 
 -- ---- causes
 
-or_else_both : (first next : Cause) → (first or_else next) ≡ Suits → (first ≡ Suits) × (next ≡ Suits)
+or_else_both : (first next : Option Cause) → (first or_else next) ≡ None → (first ≡ None) × (next ≡ None)
 unfolding ◌or_else◌
-or_else_both Suits next h = (refl, h)
-or_else_both (Id found wanted) next h = never (cc)
-or_else_both (Missing attributetype) next h = never (cc)
-or_else_both (Value attributetype found wanted) next h = never (cc)
-or_else_both (Surplus attributetype found) next h = never (cc)
-or_else_both (Seconds found longest) next h = never (cc)
-or_else_both Kilobytes next h = never (cc)
+or_else_both None next h = (refl, h)
+or_else_both (Some cause) next h = never (cc)
 
-suits_only : (test : Bool) {other : Cause} → (other ≡ Suits → ⊥) → (if test then Suits otherwise other) ≡ Suits → test ≡ true
-suits_only true no_suit h = refl
-suits_only false no_suit h = absurd (no_suit h)
+none_only : (test : Bool) (cause : Cause) → (if test then None otherwise Some cause) ≡ None → test ≡ true
+none_only true cause h = refl
+none_only false cause h = never (cc)
 
 -- ---- what is wanted is there, and with the values that are wanted
 
 record Fine (lifetype : ℕ) (attributes : List ℕ) (wants : List (ℕ × ℕ)) : Type 0 where
-  there : missing_cause lifetype wants attributes ≡ Suits
-  right : value_cause lifetype wants attributes ≡ Suits
+  there : missing_cause lifetype wants attributes ≡ None
+  right : value_cause lifetype wants attributes ≡ None
 
 module _ {lifetype : ℕ} {attributes : List ℕ} where
   none-wanted : Fine lifetype attributes []
@@ -46,7 +41,7 @@ module _ {lifetype : ℕ} {attributes : List ℕ} where
   none-wanted = record { there = refl; right = refl }
 
   module _ {t v : ℕ} {wants : List (ℕ × ℕ)} where
-    one_more : missing_one lifetype t attributes ≡ Suits → value_one lifetype t v attributes ≡ Suits → Fine lifetype attributes wants →
+    one_more : missing_one lifetype t attributes ≡ None → value_one lifetype t v attributes ≡ None → Fine lifetype attributes wants →
         Fine lifetype attributes ((t, v) ∷ wants)
     unfolding missing_cause value_cause first_cause ◌or_else◌
     one_more m n rest = record { there = rw m rest.there; right = rw n rest.right }
@@ -60,8 +55,8 @@ module _ {lifetype : ℕ} {attributes : List ℕ} where
     first-value : eqb t lifetype ≡ false → Fine lifetype attributes ((t, v) ∷ wants) → value_is t v attributes ≡ true
     unfolding value_cause first_cause value_one
     first-value other f =
-        let first : value_one lifetype t v attributes ≡ Suits = (or_else_both _ _ f.right).0 in
-        suits_only (value_is t v attributes) (λ e. never (cc)) (rw other at first)
+        let first : value_one lifetype t v attributes ≡ None = (or_else_both _ _ f.right).0 in
+        none_only (value_is t v attributes) _ (rw other at first)
 
     others : Fine lifetype attributes ((t, v) ∷ wants) → Fine lifetype attributes wants
     unfolding missing_cause value_cause first_cause
@@ -86,7 +81,7 @@ record Passed (w : Wish) (t : List ℕ) : Type 0 where
   some : kilobytes_some w.lifetype (attributes_of t) ≡ true
 
 module _ (w : Wish) (t : List ℕ) where
-  wish_passed : wish_cause w t ≡ Suits → Passed w t
+  wish_passed : wish_cause w t ≡ None → Passed w t
   unfolding wish_cause attributes_cause id_cause surplus_cause seconds_cause kilobytes_cause
   wish_passed h =
       let first = or_else_both (id_cause w t) (attributes_cause w (attributes_of t)) h in
@@ -95,14 +90,14 @@ module _ (w : Wish) (t : List ℕ) where
       let few = or_else_both _ (surplus_cause w (attributes_of t)) lasting.0 in
       let values = or_else_both (missing_cause w.lifetype (wanted w) (attributes_of t)) _ few.0 in
       record {
-        same_id = suits_only _ (λ e. never (cc)) first.0;
+        same_id = none_only _ _ first.0;
         fine = record { there = values.0; right = values.1 };
-        few = suits_only _ (λ e. never (cc)) few.1;
-        lasts = suits_only _ (λ e. never (cc)) lasting.1;
-        some = suits_only _ (λ e. never (cc)) last.1;
+        few = none_only _ _ few.1;
+        lasts = none_only _ _ lasting.1;
+        some = none_only _ _ last.1;
       }
 
-  passed_wish : Passed w t → wish_cause w t ≡ Suits
+  passed_wish : Passed w t → wish_cause w t ≡ None
   unfolding wish_cause attributes_cause id_cause surplus_cause seconds_cause kilobytes_cause ◌or_else◌
   passed_wish p = rw (p.same_id, p.fine.there, p.fine.right, p.few, p.lasts, p.some)
 
@@ -178,14 +173,14 @@ module _ (protocols mode longest protocol : ℕ) (t : List ℕ) where
 -- ---- any line
 
 module _ (exchange i : ℕ) (book : List ℕ) (protocol : ℕ) (t : List ℕ) where
-  pub suits-passes : transform_cause exchange i book protocol t ≡ Suits → suits_line exchange i book protocol t ≡ true
+  pub suits-passes : transform_cause exchange i book protocol t ≡ None → suits_line exchange i book protocol t ≡ true
   unfolding transform_cause wish_of suits_line
   suits-passes h =
       by_test (eqb exchange 2)
       (λ e. rw e (passed_main _ t (wish_passed _ t (rw e at h))))
       (λ e. rw e (passed_quick _ _ _ protocol t (wish_passed _ t (rw e at h))))
 
-  pub passes-suits : suits_line exchange i book protocol t ≡ true → transform_cause exchange i book protocol t ≡ Suits
+  pub passes-suits : suits_line exchange i book protocol t ≡ true → transform_cause exchange i book protocol t ≡ None
   unfolding transform_cause wish_of suits_line
   passes-suits h =
       by_test (eqb exchange 2)

@@ -8,6 +8,7 @@ use native.Mathlib.Omega.{arith}
 use lib.ListN.{length, drop}
 use lib.Dec.{leb, eqb}
 use borrow.Author.Tests.{eqb-true, eqb-false, eq-eqb, leb-true, leb-false, le-leb, not-false}
+use Rattle.std.specs.Prelude.{Option, None, Some}
 use Rattle.wire_read.proofs.Tests.{clash, neither, by_test}
 use Rattle.policy_lines.specs.Lines.{main_seconds, quick_protocols, quick_mode, quick_seconds}
 use Rattle.sa_attribute.specs.Attributes.{attribute_type, attribute, value}
@@ -23,7 +24,7 @@ use Rattle.policy_suiting.proofs.TransformLaws.{main-says, quick-says}
 use Rattle.sa_proposals.proofs.Known.{Known, isakmp, ah-of, esp-of}
 use Rattle.policy_cause.specs.declared.Wish.{Wish}
 use Rattle.policy_cause.specs.declared.Cause.{Cause}
-use Rattle.policy_cause.specs.declared.Cause.TheVariants.{Suits, Id, Missing, Value, Surplus, Seconds, Kilobytes}
+use Rattle.policy_cause.specs.declared.Cause.TheVariants.{Id, Missing, Value, Surplus, Seconds, Kilobytes}
 use Rattle.policy_cause.specs.Causes.{◌or_else◌, wish_of, wanted, wanted_count, id_cause, is_there, missing_one, missing_cause, value_one, value_cause, surplus_cause, seconds_cause, kilobytes_cause, attributes_cause, wish_cause, transform_cause}
 use Rattle.policy_truth.specs.Truth.{one_type, one_unit, There, type_of, wanted_id, longest_seconds, wants, AllThere, AllRight, AllAllowed, Says}
 use Rattle.policy_truth.specs.Truth as Truth
@@ -115,7 +116,7 @@ module _ {exchange : ℕ} {w : Wish} (wishes : Wishes exchange w) (t : List ℕ)
 
   module _ (i : ℕ) (book : List ℕ) (protocol : ℕ) (same_id : wanted_id exchange protocol ≡ w.id)
       (same-longest : longest_seconds exchange i book ≡ w.longest) (same-wants : wants exchange i book protocol ≡ offers w) where
-    abbrev True : (cause : Cause) → Type 0
+    abbrev True : (cause : Option Cause) → Type 0
     True cause = Says exchange i book protocol t cause
 
     abbrev SameId : Type 0
@@ -124,7 +125,7 @@ module _ {exchange : ℕ} {w : Wish} (wishes : Wishes exchange w) (t : List ℕ)
     id_condition : Condition True (eqb (transform_id t) w.id ≡ true) (id_cause w t)
     unfolding id_cause ◌or_else◌
     id_condition =
-        by_condition (eqb (transform_id t) w.id) (Id (transform_id t) w.id) (λ next. refl)
+        by_condition (eqb (transform_id t) w.id) (Id (transform_id t) w.id)
         (λ e. rw (← same_id) (Truth.id (eqb-false _ _ (rw (← same_id) at e))))
 
     its_id : eqb (transform_id t) w.id ≡ true → SameId
@@ -141,19 +142,19 @@ module _ {exchange : ℕ} {w : Wish} (wishes : Wishes exchange w) (t : List ℕ)
       before_wanted : (b : ℕ × ℕ) → Within b before → Within b (wanted w)
       before_wanted b m = rw cut (in_before before (a ∷ after) m)
 
-    missing-first : SameId → {cause : Cause} → FirstFails there_test (λ a. Missing a.0) (wanted w) cause →
+    missing-first : SameId → {cause : Option Cause} → FirstFails there_test (λ a. Missing a.0) (wanted w) cause →
         Condition True (Pass there_test (wanted w)) cause
     unfolding ◌or_else◌
     missing-first same (none_fails pass) = holds pass
     missing-first same (one_fails before after a cut pass f) =
-        fails {cause = Missing a.0} (λ next. refl)
+        fails {cause = Missing a.0}
         (rw (← type_of_lem a)
         (Truth.missing same _ _ (offer a) (cut_wants before after a cut) (all_there before (before_wanted before after a cut) pass)
         (λ h. clash (sym f ∙ is-there a (this_wanted before after a cut) h))))
 
     missing_condition : SameId → Condition True (Pass there_test (wanted w)) (missing_cause lifetype (wanted w) s)
     unfolding missing_cause missing_one ◌or_else◌
-    missing_condition same = missing-first same (first_fails there_test (λ a. Missing a.0) (λ a next. refl) (wanted w))
+    missing_condition same = missing-first same (first_fails there_test (λ a. Missing a.0) (wanted w))
 
     -- where none is missing
     module _ (same : SameId) (there : Pass there_test (wanted w)) where
@@ -171,7 +172,7 @@ module _ {exchange : ℕ} {w : Wish} (wishes : Wishes exchange w) (t : List ℕ)
           let h : leb 4 (length (attribute a.0 s)) ≡ true = rw other at (there a m) in
           (h, found-offered (single_in wishes.life s reads a.0 (its_plain a m other)) (leb-true _ _ h))
 
-      value-first : {cause : Cause} → FirstFails right_test (λ a. Value a.0 (value (attribute a.0 s)) a.1) (wanted w) cause →
+      value-first : {cause : Option Cause} → FirstFails right_test (λ a. Value a.0 (value (attribute a.0 s)) a.1) (wanted w) cause →
           Condition True (Pass right_test (wanted w)) cause
       unfolding ◌or_else◌ value_is
       value-first (none_fails pass) = holds pass
@@ -180,13 +181,13 @@ module _ {exchange : ℕ} {w : Wish} (wishes : Wishes exchange w) (t : List ℕ)
           let (h, found) = its_found a (this_wanted before after a cut) other in
           let split : wants exchange i book protocol ≡ map offer before ++ single a.0 a.1 ∷ map offer after =
           rw (← as_single lifetype w.longest a other) (cut_wants before after a cut) in
-          fails (λ next. refl)
+          fails
           (Truth.value same wants-there _ _ a.0 a.1 _ split (all_right before (before_wanted before after a cut) pass) found
           (eqb-false _ _ (rw h at wrong)))
 
       value_condition : Condition True (Pass right_test (wanted w)) (value_cause lifetype (wanted w) s)
       unfolding value_cause value_one ◌or_else◌
-      value_condition = value-first (first_fails right_test (λ a. Value a.0 (value (attribute a.0 s)) a.1) (λ a next. refl) (wanted w))
+      value_condition = value-first (first_fails right_test (λ a. Value a.0 (value (attribute a.0 s)) a.1) (wanted w))
 
       -- and none is wrong
       module _ (right : Pass right_test (wanted w)) where
@@ -194,14 +195,14 @@ module _ {exchange : ℕ} {w : Wish} (wishes : Wishes exchange w) (t : List ℕ)
         wants-right = rw same-wants (all_right (wanted w) (λ a m. m) right)
 
         surplus-first : {found : List ℕ} → nothing_surplus (wanted_count w) lifetype s ≡ false → Walked exchange (offers w) found offered →
-            True (Surplus (attribute_type found) (value found))
+            True (Some (Surplus (attribute_type found) (value found)))
         surplus-first some (none-surplus all) = clash (sym some ∙ allowed_few wishes s reads offers_there all)
         surplus-first some (first-surplus before after x cut all other type v) =
             rw (type, v) (Truth.surplus same wants-there wants-right before after x cut (rw same-wants all) (rw same-wants other))
 
         surplus_condition : Condition True (nothing_surplus (wanted_count w) lifetype s ≡ true) (surplus_cause w s)
         unfolding surplus_cause ◌or_else◌
-        surplus_condition = by_condition _ _ (λ next. refl) (λ e. surplus-first e (walked_all wishes s reads))
+        surplus_condition = by_condition _ _ (λ e. surplus-first e (walked_all wishes s reads))
 
         -- and nothing is surplus
         module _ (few : nothing_surplus (wanted_count w) lifetype s ≡ true) where
@@ -215,7 +216,7 @@ module _ {exchange : ℕ} {w : Wish} (wishes : Wishes exchange w) (t : List ℕ)
           seconds_condition : Condition True (seconds_within lifetype w.longest s ≡ true) (seconds_cause w s)
           unfolding seconds_cause seconds_within ◌or_else◌
           seconds_condition =
-              by_condition (seconds_within lifetype w.longest s) (Seconds (value (seconds_of lifetype s)) w.longest) (λ next. refl)
+              by_condition (seconds_within lifetype w.longest s) (Seconds (value (seconds_of lifetype s)) w.longest)
               (λ e.
               let m = found-offered (lifetime_in wishes.life s reads 1) (leb-true _ _ seconds-there) in
               rw (← same-longest) (Truth.seconds-out same wants-there wants-right wants_allowed (value (seconds_of lifetype s)) m
@@ -225,7 +226,7 @@ module _ {exchange : ℕ} {w : Wish} (wishes : Wishes exchange w) (t : List ℕ)
           unfolding kilobytes_cause kilobytes_some ◌or_else◌
           kilobytes_condition lasts =
               let l = seconds-say wishes.life s reads w.longest lasts in
-              by_condition (kilobytes_some lifetype s) Kilobytes (λ next. refl)
+              by_condition (kilobytes_some lifetype s) Kilobytes
               (λ e.
               let (has, least) = neither (not (has_kilobytes lifetype s)) (leb 1 (value (kilobytes_of lifetype s))) e in
               let none : value (kilobytes_of lifetype s) ≡ 0 = omega (arith, leb-false 1 (value (kilobytes_of lifetype s)) least) in
@@ -234,7 +235,7 @@ module _ {exchange : ℕ} {w : Wish} (wishes : Wishes exchange w) (t : List ℕ)
               (rw same-longest l.to_seconds) (rw none at m))
 
     -- each condition, where those before it hold
-    wish_says : (wish_cause w t ≡ Suits → TransformSuits exchange i book protocol t) → True (wish_cause w t)
+    wish_says : (wish_cause w t ≡ None → TransformSuits exchange i book protocol t) → True (wish_cause w t)
     unfolding wish_cause attributes_cause
     wish_says suit =
         all_told

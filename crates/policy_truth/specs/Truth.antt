@@ -1,13 +1,13 @@
 -- What each cause says of a transform, document 02: "Each printed cause must be true of that transform". Over the list of what the transform
 -- offers and the list of what the line wants, in the words of Suiting.antt and with no search; and with each cause, that no cause before it holds.
-use Rattle.std.specs.Prelude.{ℕ, ◌≤◌, ◌≡◌, List, ◌∷◌, ◌++◌, eqb}
+use Rattle.std.specs.Prelude.{ℕ, ◌≤◌, ◌≡◌, Option, None, Some, List, ◌∷◌, ◌++◌, eqb}
 use Rattle.wire_read.specs.Wire.{Bytes}
 use Rattle.wire_read.specs.Tests.{if◌then◌otherwise◌}
 use Rattle.policy_lines.specs.Lines.{main_seconds, quick_protocols, quick_mode, quick_seconds}
 use Rattle.sa_fields.specs.Fields.{transform_id, attributes_of}
 use Rattle.policy_suiting.specs.Suiting.{Offered, single, lifetime, offered_list, PutIn, seconds, kilobytes, main_attributes, quick_attributes, TransformSuits}
 use Rattle.policy_cause.specs.declared.Cause.{Cause}
-use Rattle.policy_cause.specs.declared.Cause.TheVariants.{Suits, Id, Missing, Value, Surplus, Seconds, Kilobytes}
+use Rattle.policy_cause.specs.declared.Cause.TheVariants.{Id, Missing, Value, Surplus, Seconds, Kilobytes}
 
 -- ---- what is offered and what is wanted
 
@@ -79,23 +79,23 @@ module _ (exchange i : ℕ) (book : Bytes) (protocol : ℕ) (t : Bytes) where
   abbrev SameId : Type 0
   SameId = transform_id t ≡ wanted_id exchange protocol
 
-  pub data Says : (cause : Cause) → Type 0 where
-    suits : TransformSuits exchange i book protocol t → Says Suits
+  pub data Says : (cause : Option Cause) → Type 0 where
+    suits : TransformSuits exchange i book protocol t → Says None
     -- its ID is not the wanted one
-    id : (transform_id t ≡ wanted_id exchange protocol → ⊥) → Says (Id (transform_id t) (wanted_id exchange protocol))
+    id : (transform_id t ≡ wanted_id exchange protocol → ⊥) → Says (Some (Id (transform_id t) (wanted_id exchange protocol)))
     -- x is wanted and none of its kind is offered; all that are wanted before it are
     missing : SameId → (before behind : List Offered) (x : Offered) → wanted ≡ before ++ x ∷ behind → AllThere before offered →
-        (There x offered → ⊥) → Says (Missing (type_of exchange x))
+        (There x offered → ⊥) → Says (Some (Missing (type_of exchange x)))
     -- an attribute is wanted with one value and offered with another; none that is wanted before it is
     value : SameId → AllThere wanted offered → (before behind : List Offered) (attributetype v found : ℕ) →
         wanted ≡ before ++ single attributetype v ∷ behind → AllRight before offered → Among (single attributetype found) offered →
-        (found ≡ v → ⊥) → Says (Value attributetype found v)
+        (found ≡ v → ⊥) → Says (Some (Value attributetype found v))
     -- x is offered and not wanted; all that are offered before it are
     surplus : SameId → AllThere wanted offered → AllRight wanted offered → (before behind : List Offered) (x : Offered) →
-        offered ≡ before ++ x ∷ behind → AllAllowed wanted before → (Allowed wanted x → ⊥) → Says (Surplus (type_of exchange x) (value_of x))
+        offered ≡ before ++ x ∷ behind → AllAllowed wanted before → (Allowed wanted x → ⊥) → Says (Some (Surplus (type_of exchange x) (value_of x)))
     -- seconds are offered that are 0 or above the line's
     seconds-out : SameId → AllThere wanted offered → AllRight wanted offered → AllAllowed wanted offered → (found : ℕ) →
-        Among (seconds found) offered → (1 ≤ found → found ≤ longest → ⊥) → Says (Seconds found longest)
+        Among (seconds found) offered → (1 ≤ found → found ≤ longest → ⊥) → Says (Some (Seconds found longest))
     -- kilobytes of 0 are offered, and seconds within the line's
     kilobytes-none : SameId → AllThere wanted offered → AllRight wanted offered → AllAllowed wanted offered → (life : ℕ) →
-        Among (seconds life) offered → 1 ≤ life → life ≤ longest → Among (kilobytes 0) offered → Says Kilobytes
+        Among (seconds life) offered → 1 ≤ life → life ≤ longest → Among (kilobytes 0) offered → Says (Some Kilobytes)

@@ -1,1 +1,2 @@
+pub mod Told
 mod WhyWays

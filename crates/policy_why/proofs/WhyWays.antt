@@ -7,52 +7,51 @@ use native.Mathlib.Omega.{arith}
 use lib.ListN.{length}
 use lib.Dec.{ltb}
 use borrow.Author.Tests.{eq-eqb, ne_eqb, le-leb, lt-leb}
+use Rattle.std.specs.Prelude.{Option}
 use Rattle.message_chain.specs.Message.{message}
-use Rattle.message_chain.specs.declared.Message.{Message}
-use Rattle.message_chain.specs.declared.Message.TheVariants as read
+use Rattle.message_chain.specs.Message.{Message}
+use Rattle.message_chain.specs.Message as read
 use Rattle.sa_fields.specs.Fields.{protocol, transform_count}
 use Rattle.sa_items.specs.Items.{proposal, proposal_count, transform}
 use Rattle.sa_sets.specs.Sets.{set, set_count}
 use Rattle.policy_lines.specs.Lines.{place}
 use Rattle.policy_lines.specs.declared.LineNumber.{LineNumber}
 use Rattle.policy_book.specs.Book.{book_read}
-use Rattle.policy_book.specs.declared.Book.{Book}
-use Rattle.policy_book.specs.declared.Book.TheVariants as books
+use Rattle.policy_book.specs.Book.{Book}
+use Rattle.policy_book.specs.Book as books
 use Rattle.policy_suits.specs.Suits.{protocols_suit}
 use Rattle.policy_cause.specs.declared.Cause.{Cause}
 use Rattle.policy_cause.specs.Causes.{transform_cause}
 use Rattle.policy_choice.specs.Choice.{line_count, sa_from}
-use Rattle.policy_why.specs.declared.Offer.{Offer}
-use Rattle.policy_why.specs.declared.Offer.TheVariants as offers
+use Rattle.policy_why.specs.Offer.{Offer}
+use Rattle.policy_why.specs.Offer as offers
 use Rattle.policy_why.specs.declared.Places.{Places}
-use Rattle.policy_why.specs.declared.Why.{Why}
-use Rattle.policy_why.specs.declared.Why.TheVariants.{Refused, NoSuchPlace, Protocols, Transform}
-use Rattle.policy_why.specs.Why.{message_offer, book_offer, offered, is_place, cause_in, offer_cause, why}
+use Rattle.policy_why.specs.Why.{Why, Refused, NoSuchPlace, Protocols, Transform, message_offer, book_offer, offered, is_place, cause_in, offer_cause, why}
 
 -- ---- whether there is something to say
 
-module _ (m : List ℕ) (c : Message) (ec : c ≡ message m) where
-  pub offer-unread : (number : ℕ) → c ≡ read.Refused number → offers.Refused number ≡ message_offer m (message m)
+module _ (m : List ℕ) where
+  pub offer-unread : (number : ℕ) → read.Refused number ≡ message m → offers.Refused number ≡ message_offer m (message m)
   unfolding message_offer
-  offer-unread number h = rw (← ec, h)
+  offer-unread number h = rw (← h)
 
-  module _ (exchange count : ℕ) (readable : c ≡ read.Read exchange count) (body : List ℕ) (eb : body ≡ sa_from count 0 m) where
+  module _ (exchange count : ℕ) (readable : read.Read exchange count ≡ message m) (body : List ℕ) (eb : body ≡ sa_from count 0 m) where
     pub offer-empty : length body ≡ 0 → offers.Refused 16 ≡ message_offer m (message m)
     unfolding message_offer
-    offer-empty h = rw (← ec, readable, ← eb, eq-eqb (length body) 0 h)
+    offer-empty h = rw (← readable, ← eb, eq-eqb (length body) 0 h)
 
     pub offer-readable : (length body ≡ 0 → ⊥) → offers.Readable exchange count ≡ message_offer m (message m)
     unfolding message_offer
-    offer-readable h = rw (← ec, readable, ← eb, ne_eqb (length body) 0 h)
+    offer-readable h = rw (← readable, ← eb, ne_eqb (length body) 0 h)
 
-module _ (book m : List ℕ) (b : Book) (eb : b ≡ book_read book) where
-  pub offer-book : (number : ℕ) → b ≡ books.Refused number → offers.Refused number ≡ offered book m
+module _ (book m : List ℕ) where
+  pub offer-book : (number : ℕ) → books.Refused number ≡ book_read book → offers.Refused number ≡ offered book m
   unfolding offered book_offer
-  offer-book number h = rw (← eb, h)
+  offer-book number h = rw (← h)
 
-  pub offer-lawful : (main quick : ℕ) → b ≡ books.Lawful main quick → (r : Offer) → r ≡ message_offer m (message m) → r ≡ offered book m
+  pub offer-lawful : (main quick : ℕ) → books.Lawful main quick ≡ book_read book → (r : Offer) → r ≡ message_offer m (message m) → r ≡ offered book m
   unfolding offered book_offer
-  offer-lawful main quick h r e = rw (← eb, h) e
+  offer-lawful main quick h r e = rw (← h) e
 
 -- ---- the cause at places
 
@@ -81,18 +80,18 @@ module _ (exchange : ℕ) (book body : List ℕ) (at : Places) (lines : ℕ) (el
       unfolding cause_in
       other-protocols h = rw (← el, lt-leb lines at.line a_line, ← ef, a-place, ← es, ← same_place, ← eu, h)
 
-      pub its_cause : not suit ≡ false → (p t : List ℕ) (wanted : ℕ) (cause : Cause) → p ≡ proposal at.proposal s → t ≡ transform at.transform p →
+      pub its_cause : not suit ≡ false → (p t : List ℕ) (wanted : ℕ) (cause : Option Cause) → p ≡ proposal at.proposal s → t ≡ transform at.transform p →
           wanted ≡ protocol p → cause ≡ transform_cause exchange (place line) book wanted t → Transform cause ≡ cause_in exchange book body at
       unfolding cause_in
       its_cause h p t wanted cause ep et ew ec =
           rw (← el, lt-leb lines at.line a_line, ← ef, a-place, ← es, ← same_place, ← eu, h, ← ep, ← et, ← ew, ← ec)
 
-module _ (book m : List ℕ) (at : Places) (o : Offer) (eo : o ≡ offered book m) where
-  pub why-refused : (number : ℕ) → o ≡ offers.Refused number → Refused number ≡ why book m at
+module _ (book m : List ℕ) (at : Places) where
+  pub why-refused : (number : ℕ) → offers.Refused number ≡ offered book m → Refused number ≡ why book m at
   unfolding why offer_cause
-  why-refused number h = rw (← eo, h)
+  why-refused number h = rw (← h)
 
-  pub why-readable : (exchange count : ℕ) → o ≡ offers.Readable exchange count → (body : List ℕ) → body ≡ sa_from count 0 m → (r : Why) →
+  pub why-readable : (exchange count : ℕ) → offers.Readable exchange count ≡ offered book m → (body : List ℕ) → body ≡ sa_from count 0 m → (r : Why) →
       r ≡ cause_in exchange book body at → r ≡ why book m at
   unfolding why offer_cause
-  why-readable exchange count h body eb r e = rw (← eo, h, ← eb) e
+  why-readable exchange count h body eb r e = rw (← h, ← eb) e

@@ -1,25 +1,41 @@
 -- Document 02, "Say why nothing was chosen": for which offers there is something to say, and the cause at each place.
-use Rattle.std.specs.Prelude.{ℕ, [], ◌∷◌, Bool, not, ◌&&◌, length, ltb, leb, eqb}
+use Rattle.std.specs.Prelude.{ℕ, Option, Result, Ok, Err, [], ◌∷◌, Bool, not, ◌&&◌, length, ltb, leb, eqb}
 use Rattle.wire_read.specs.Wire.{Bytes}
 use Rattle.wire_read.specs.Tests.{if◌then◌otherwise◌}
 use Rattle.wire_read.specs.Answer.{Answer, done, refused}
 use Rattle.message_chain.specs.Message.{message}
-use Rattle.message_chain.specs.declared.Message.{Message}
-use Rattle.message_chain.specs.declared.Message.TheVariants as read
+use Rattle.message_chain.specs.Message.{Message}
+use Rattle.message_chain.specs.Message as read
 use Rattle.sa_fields.specs.Fields.{protocol, transform_count}
 use Rattle.sa_items.specs.Items.{proposal, proposal_count, transform}
 use Rattle.sa_sets.specs.Sets.{set, set_count}
 use Rattle.policy_book.specs.Book.{book_read}
-use Rattle.policy_book.specs.declared.Book.{Book}
-use Rattle.policy_book.specs.declared.Book.TheVariants as books
+use Rattle.policy_book.specs.Book.{Book}
+use Rattle.policy_book.specs.Book as books
 use Rattle.policy_suits.specs.Suits.{protocols_suit}
 use Rattle.policy_cause.specs.Causes.{transform_cause, cause_values}
 use Rattle.policy_choice.specs.Choice.{line_count, sa_from}
-use Rattle.policy_why.specs.declared.Offer.{Offer}
-use Rattle.policy_why.specs.declared.Offer.TheVariants as offers
+use Rattle.policy_cause.specs.declared.Cause.{Cause}
+use Rattle.policy_why.specs.Offer.{Offer}
+use Rattle.policy_why.specs.Offer as offers
 use Rattle.policy_why.specs.declared.Places.{Places}
-use Rattle.policy_why.specs.declared.Why.{Why}
-use Rattle.policy_why.specs.declared.Why.TheVariants.{Refused, NoSuchPlace, Protocols, Transform}
+use Rattle.policy_why.specs.declared.Why.{Why as Said}
+use Rattle.policy_why.specs.declared.Why.TheVariants as said
+use Rattle.refusal.specs.declared.Refusal.{Refusal}
+use Rattle.refusal.specs.Numbers.{number}
+
+-- what is said at places, and what the code says so by
+pub data Why : Type 0 where
+  Refused : (number : ℕ) → Why
+  NoSuchPlace : Why
+  Protocols : Why
+  Transform : (cause : Option Cause) → Why
+
+abbrev pub why_told : (answer : Result Said Refusal) → Why
+why_told (Ok said.NoSuchPlace) = NoSuchPlace
+why_told (Ok said.Protocols) = Protocols
+why_told (Ok (said.Transform cause)) = Transform cause
+why_told (Err refusal) = Refused (number refusal)
 
 -- "For a readable offer and a book": the refusals of the choice, but never 14: the book's, the message's, no SA payload (16)
 unfoldable pub message_offer : (m : Bytes) (read : Message) → Offer

@@ -1,29 +1,24 @@
 // Why a set of an offer does not suit a line of the book: the refusals, and the cause at each place.
 #![tactic(auto)]
 
-ghost use Rattle.std.specs.Prelude.{◌≡◌};
+ghost use Rattle.std.specs.Prelude.{◌≡◌, Ok};
 ghost use Rattle.message_chain.specs.Message.{message};
-ghost use Rattle.policy_why.specs.Why.{message_offer, offered, is_place, cause_in, why};
+ghost use Rattle.policy_why.specs.Offer.{offer_told};
+ghost use Rattle.policy_why.specs.Why.{why_told, message_offer, offered, is_place, cause_in, why};
 
 use message_chain::Message;
-use policy_book::{Book, read_book};
+use policy_book::read_book;
 use policy_cause::{Cause, transform_cause};
 use policy_choice::choose::{line_count, sa_of};
 use policy_lines::LineNumber;
 use policy_suits::protocols_suit;
+use refusal::Refusal;
 use sa_fields::{protocol, transform_count};
 use sa_items::{proposal, proposal_count, transform};
 use sa_sets::{set, set_count};
 
-// Whether there is something to say: of a lawful book and a readable message with an SA payload. Its exchange and how many payloads it has.
-#[derive(Clone, Copy)]
-pub enum Offer {
-    Refused(u16),
-    Readable { exchange: u8, count: u8 },
-}
-
 // Places of a set, of a line of the exchange's, of a proposal and of a transform, each counted from 0.
-#[derive(Clone, Copy)]
+#[derive(Clone, Copy, Debug, PartialEq, Eq)]
 pub struct Places {
     pub set: u8,
     pub line: u8,
@@ -31,41 +26,31 @@ pub struct Places {
     pub transform: u8,
 }
 
-// What is said at places: that the set's protocols are not the line's, or the transform's own cause.
-#[derive(Clone, Copy)]
+// What is said at places: that the set's protocols are not the line's, or the transform's own cause, none where it suits.
+#[derive(Clone, Copy, Debug, PartialEq, Eq)]
 pub enum Why {
-    Refused(u16),
     NoSuchPlace,
     Protocols,
-    Transform(Cause),
+    Transform(Option<Cause>),
 }
 
-// Whether a message is readable and has an SA payload.
-pub fn message_offer(m: &[u8]) -> Offer
-    ensures { result ≡ message_offer m.now (message m.now) }
+// Whether there is something to say of a message: it is readable, and has an SA payload.
+pub fn message_offer(m: &[u8]) -> Result<Message, Refusal>
+    ensures { offer_told result ≡ message_offer m.now (message m.now) }
 {
-    let read = message_chain::read(m);
-    match read {
-        Message::Refused(number) => Offer::Refused(number),
-        Message::Read { exchange, count } => {
-            if sa_of(count, m).len() == 0 {
-                Offer::Refused(16)
-            } else {
-                Offer::Readable { exchange, count }
-            }
-        }
+    let read = message_chain::read(m)?;
+    if sa_of(read.count, m).len() == 0 {
+        return Err(Refusal::PayloadMalformed);
     }
+    Ok(read)
 }
 
 // Whether there is something to say of this book and this message.
-pub fn offered(book: &[u8], m: &[u8]) -> Offer
-    ensures { result ≡ offered book.now m.now }
+pub fn offered(book: &[u8], m: &[u8]) -> Result<Message, Refusal>
+    ensures { offer_told result ≡ offered book.now m.now }
 {
-    let lines = read_book(book);
-    match lines {
-        Book::Refused(number) => Offer::Refused(number),
-        Book::Lawful { main: _, quick: _ } => message_offer(m),
-    }
+    read_book(book)?;
+    message_offer(m)
 }
 
 // Whether set, proposal and transform are there in an SA payload's body.
@@ -80,7 +65,7 @@ pub fn is_place(body: &[u8], at: Places) -> bool
 }
 
 fn cause_in(exchange: u8, book: &[u8], body: &[u8], at: Places) -> Why
-    ensures { result ≡ cause_in exchange book.now body.now at }
+    ensures { why_told (Ok result) ≡ cause_in exchange book.now body.now at }
 {
     if line_count(exchange, book) <= at.line {
         return Why::NoSuchPlace;
@@ -99,12 +84,10 @@ fn cause_in(exchange: u8, book: &[u8], body: &[u8], at: Places) -> Why
 }
 
 // The cause at these places of the offer.
-pub fn cause_at(book: &[u8], m: &[u8], at: Places) -> Why
-    ensures { result ≡ why book.now m.now at }
+pub fn cause_at(book: &[u8], m: &[u8], at: Places) -> Result<Why, Refusal>
+    ensures { why_told result ≡ why book.now m.now at }
 {
-    let read = offered(book, m);
-    match read {
-        Offer::Refused(number) => Why::Refused(number),
-        Offer::Readable { exchange, count } => cause_in(exchange, book, sa_of(count, m), at),
-    }
+    let offer = offered(book, m)?;
+    let body = sa_of(offer.count, m);
+    Ok(cause_in(offer.exchange, book, body, at))
 }

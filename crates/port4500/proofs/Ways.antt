@@ -1,15 +1,16 @@
 -- A law for each way out of this crate's functions.
 use Prim.Native.Nat.{ℕ, ◌-◌, ◌≤◌, ◌<◌}
-use mathlib.Core.Path.{◌≡◌, ◌∙◌}
+use mathlib.Core.Path.{◌≡◌}
 use mathlib.Core.List.{List, [], ◌∷◌}
 use mathlib.Core.Bool.{Bool, true, false}
 use lib.ListN.{length, take, drop}
-use lib.Seq.{drop-length}
+use Rattle.std.specs.Prelude.{Result, Ok, Err}
 use borrow.Author.Tests.{lt-ltb, le-ltb}
 use Rattle.wire_read.specs.Wire.{equal}
-use Rattle.port4500.specs.Port.{marker, datagram, handed_on}
-use Rattle.port4500.specs.declared.Datagram.{Datagram}
-use Rattle.port4500.specs.declared.Datagram.TheVariants.{Keepalive, KeyExchange, Esp, Refused}
+use Rattle.port4500.specs.Port.{Keepalive, KeyExchange, Esp, Refused, marker, datagram, datagram_told, handed_on}
+use Rattle.refusal.specs.declared.Refusal.{Refusal}
+use Rattle.port4500.specs.declared.Datagram.{Datagram as Lawful}
+use Rattle.port4500.specs.declared.Datagram.TheVariants as Codes
 
 module _ (s : List ℕ) (k : Bool) (ek : k ≡ equal s (255 ∷ [])) where
   pub keepalive : k ≡ true → Keepalive ≡ datagram s
@@ -33,25 +34,22 @@ module _ (s : List ℕ) (k : Bool) (ek : k ≡ equal s (255 ∷ [])) where
       unfolding datagram
       esp h = rw (← ek, other, le-ltb (length s) 4 long, ← marked, h)
 
--- ---- what is handed on: t is the part that the code takes, d what it read
+-- ---- what is handed on: r is what the code read, t the part that it takes
 
-module _ (s t : List ℕ) (d : Datagram) (read : d ≡ datagram s) where
-  pub rest-handed : (start n : ℕ) → d ≡ KeyExchange start n → t ≡ drop start s → t ≡ handed_on (datagram s) s
-  unfolding handed_on
-  rest-handed start n e et = rw (← read, e) et
-
-  pub whole-handed : (n : ℕ) → d ≡ Esp n → s ≡ handed_on (datagram s) s
-  unfolding handed_on
-  whole-handed n e = rw (← read, e)
-
-  module _ (none : t ≡ drop (length s) s) where
-    empty : t ≡ []
-    empty = none ∙ drop-length s
-
-    pub keepalive-handed : d ≡ Keepalive → t ≡ handed_on (datagram s) s
+module _ (s : List ℕ) (r : Result Lawful Refusal) (read : datagram_told r ≡ datagram s) where
+  module _ (d : Lawful) (is : r ≡ Ok d) where
+    pub rest-handed : (start n : ℕ) → d ≡ Codes.KeyExchange start n → (t : List ℕ) → t ≡ drop start s → t ≡ handed_on (datagram s) s
     unfolding handed_on
-    keepalive-handed e = rw (← read, e) empty
+    rest-handed start n e t et = rw (← read, is, e) et
 
-    pub refused-handed : (number : ℕ) → d ≡ Refused number → t ≡ handed_on (datagram s) s
+    pub whole-handed : (n : ℕ) → d ≡ Codes.Esp n → s ≡ handed_on (datagram s) s
     unfolding handed_on
-    refused-handed number e = rw (← read, e) empty
+    whole-handed n e = rw (← read, is, e)
+
+    pub keepalive-handed : d ≡ Codes.Keepalive → [] ≡ handed_on (datagram s) s
+    unfolding handed_on
+    keepalive-handed e = rw (← read, is, e)
+
+  pub refused-handed : (refusal : Refusal) → r ≡ Err refusal → [] ≡ handed_on (datagram s) s
+  unfolding handed_on
+  refused-handed refusal e = rw (← read, e)

@@ -1,10 +1,19 @@
 -- What arrives at port 4500, document 01, "Port 4500".
-use Rattle.std.specs.Prelude.{◌-◌, [], ◌∷◌, length, take, drop, ltb}
+use Rattle.std.specs.Prelude.{ℕ, ◌-◌, [], ◌∷◌, Result, Ok, Err, length, take, drop, ltb}
 use Rattle.wire_read.specs.Wire.{Bytes, equal}
 use Rattle.wire_read.specs.Tests.{if◌then◌otherwise◌}
 use Rattle.wire_read.specs.Answer.{Answer, done, refused}
-use Rattle.port4500.specs.declared.Datagram.{Datagram}
-use Rattle.port4500.specs.declared.Datagram.TheVariants.{Keepalive, KeyExchange, Esp, Refused}
+use Rattle.refusal.specs.Numbers.{number}
+use Rattle.refusal.specs.declared.Refusal.{Refusal}
+use Rattle.port4500.specs.declared.Datagram.{Datagram as Lawful}
+use Rattle.port4500.specs.declared.Datagram.TheVariants as Codes
+
+-- what a datagram is
+pub data Datagram : Type 0 where
+  Keepalive : Datagram
+  KeyExchange : (start length : ℕ) → Datagram
+  Esp : (length : ℕ) → Datagram
+  Refused : (number : ℕ) → Datagram
 
 -- "four zero bytes"
 abbrev pub marker : Bytes
@@ -18,6 +27,13 @@ datagram s =
     otherwise if ltb (length s) 4 then Refused 16
     otherwise if equal (take 4 s) marker then KeyExchange 4 (length s - 4)
     otherwise Esp (length s)
+
+-- an answer of the code, in these words
+abbrev pub datagram_told : (answer : Result Lawful Refusal) → Datagram
+datagram_told (Ok Codes.Keepalive) = Keepalive
+datagram_told (Ok (Codes.KeyExchange start length)) = KeyExchange start length
+datagram_told (Ok (Codes.Esp length)) = Esp length
+datagram_told (Err refusal) = Refused (number refusal)
 
 -- the part that is handed on: the rest of a key exchange, an ESP packet whole, nothing else
 unfoldable pub handed_on : (datagram : Datagram) (s : Bytes) → Bytes

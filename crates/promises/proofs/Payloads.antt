@@ -6,7 +6,7 @@ use Rattle.wire_read.specs.Answer.{done}
 use Rattle.message_header.specs.Header.{first_payload}
 use Rattle.message_chain.specs.Message.{payloads, reading, message, walk, payload_at, message_answer, shown}
 use Rattle.message_chain.specs.declared.Payload.{Payload}
-use Rattle.message_chain.specs.declared.Message.TheVariants.{Read}
+use Rattle.message_chain.specs.Message.{Read}
 use Rattle.message_chain.proofs.Laws.{walk_start, reading-found, read_as}
 use Rattle.promises.specs.Payloads.{InLine, Found, answer-own}
 

@@ -17,7 +17,7 @@ use Rattle.wire_write.proofs.Laws.{length_bytes_of, number-bytes_of, paste_insid
 use Rattle.message_header.specs.Header.{exchange_of, flags_of, first_payload, version_of, message_id_of, header_length, length_wrong, major_wrong, minor_wrong, exchange_refused, exchange_unknown, flags_wrong, cookie_zero, message_id_wrong, flagged_length_wrong, no_payload, header_code}
 use Rattle.message_header.proofs.Laws as headers
 use Rattle.message_chain.specs.Message.{message, message_answer}
-use Rattle.message_chain.specs.declared.Message.TheVariants.{Read}
+use Rattle.message_chain.specs.Message.{Read}
 use Rattle.message_chain.proofs.Laws.{reading-header, read_as, one_sa_reads}
 use Rattle.sa_proposals.specs.Proposals.{offer_code}
 use Rattle.sa_fields.specs.Fields.{protocol}
@@ -30,7 +30,7 @@ use Rattle.policy_choice.specs.Choice.{number_of, transforms_of, sa_from, choice
 use Rattle.policy_reply.specs.Reply.{sa_of, set_reply, spis_low, replied, reply_answer}
 use Rattle.policy_lines.specs.declared.LineNumber.{LineNumber}
 use Rattle.policy_choice.specs.declared.Transforms.{Transforms}
-use Rattle.policy_choice.specs.declared.Choice.TheVariants.{Chosen}
+use Rattle.policy_choice.specs.Choice.{Chosen}
 use Rattle.sa_proposals.proofs.Known.{Known, isakmp, ah-of, esp-of, known_of}
 use Rattle.policy_suiting.proofs.SuitLaws.{chosen_in, taken, shape}
 use Rattle.policy_choice.proofs.ChoiceLaws.{Chose, chose_says, sa_in_front}

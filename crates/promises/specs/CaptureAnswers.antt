@@ -1,16 +1,16 @@
 -- Captures: no two answers of one type have the same number and values.
-use Rattle.std.specs.Prelude.{ℕ, ◌-◌, ◌≡◌, refl, Bool, length, get_or, eqb, leb}
+use Rattle.std.specs.Prelude.{ℕ, ◌-◌, ◌≡◌, refl, Bool, Option, None, Some, length, get_or, eqb, leb}
 use Rattle.std.proofs.Common.{sym, ap, ◌∙◌}
 use Rattle.wire_read.specs.Tests.{if◌then◌otherwise◌}
 use Rattle.wire_read.specs.Answer.{Answer}
-use Rattle.sequence_record.specs.declared.Verdict.{Verdict}
-use Rattle.sequence_record.specs.declared.Verdict.TheVariants as Verdicts
+use Rattle.sequence_record.specs.Verdict.{Verdict}
+use Rattle.sequence_record.specs.Verdict as Verdicts
 use Rattle.sequence_record.specs.Receive.{verdict_answer}
 use Rattle.capture_header.specs.declared.Order.TheVariants.{Big, Little}
-use Rattle.capture_header.specs.declared.FileHeader.{FileHeader}
-use Rattle.capture_header.specs.declared.FileHeader.TheVariants as Files
-use Rattle.capture_header.specs.declared.RecordHeader.{RecordHeader}
-use Rattle.capture_header.specs.declared.RecordHeader.TheVariants as Records
+use Rattle.capture_header.specs.FileHeader.{FileHeader}
+use Rattle.capture_header.specs.FileHeader as Files
+use Rattle.capture_header.specs.RecordHeader.{RecordHeader}
+use Rattle.capture_header.specs.RecordHeader as Records
 use Rattle.capture_header.specs.declared.HeaderCause.{HeaderCause}
 use Rattle.capture_header.specs.declared.HeaderCause.TheVariants as Causes
 use Rattle.capture_header.specs.Headers.{file_header_answer, record_header_answer, header_cause_answer}
@@ -20,8 +20,8 @@ use Rattle.capture_frame.specs.declared.Part.{Part}
 use Rattle.capture_frame.specs.declared.Frame.{Frame}
 use Rattle.capture_frame.specs.declared.Frame.TheVariants as Frames
 use Rattle.capture_frame.specs.Frame.{frame_answer}
-use Rattle.capture_record.specs.declared.Listed.{Listed}
-use Rattle.capture_record.specs.declared.Listed.TheVariants as Lines
+use Rattle.capture_record.specs.Listed.{Listed}
+use Rattle.capture_record.specs.Listed as Lines
 use Rattle.capture_record.specs.Listing.{listed_answer}
 
 -- The answer that a number and values stand for, of each type; it is the answer that they come from.
@@ -64,29 +64,29 @@ record_header-meant (Records.Refused number) = refl
 pub record_header-own : (x y : RecordHeader) → record_header_answer x ≡ record_header_answer y → x ≡ y
 record_header-own x y h = sym (record_header-meant x) ∙ ap record_header_meant h ∙ record_header-meant y
 
-abbrev header_cause_meant : (a : Answer) → HeaderCause
+abbrev header_cause_meant : (a : Answer) → Option HeaderCause
 header_cause_meant a =
-    if is_kind a 1 then Causes.Nothing
-    otherwise if is_kind a 2 then Causes.Short
-    otherwise if is_kind a 3 then Causes.Pcapng
-    otherwise if is_kind a 4 then Causes.Nanoseconds
-    otherwise if is_kind a 5 then Causes.Version (value a 1) (value a 2)
-    otherwise if is_kind a 6 then Causes.CheckSequences
-    otherwise if is_kind a 7 then Causes.LinkType (value a 1)
-    otherwise Causes.NoCapture
+    if is_kind a 1 then None
+    otherwise if is_kind a 2 then Some Causes.Short
+    otherwise if is_kind a 3 then Some Causes.Pcapng
+    otherwise if is_kind a 4 then Some Causes.Nanoseconds
+    otherwise if is_kind a 5 then Some (Causes.Version (value a 1) (value a 2))
+    otherwise if is_kind a 6 then Some Causes.CheckSequences
+    otherwise if is_kind a 7 then Some (Causes.LinkType (value a 1))
+    otherwise Some Causes.NoCapture
 
-header_cause_meant_lem : (x : HeaderCause) → header_cause_meant (header_cause_answer x) ≡ x
+header_cause_meant_lem : (x : Option HeaderCause) → header_cause_meant (header_cause_answer x) ≡ x
 unfolding header_cause_answer
-header_cause_meant_lem Causes.Nothing = refl
-header_cause_meant_lem Causes.Short = refl
-header_cause_meant_lem Causes.Pcapng = refl
-header_cause_meant_lem Causes.Nanoseconds = refl
-header_cause_meant_lem (Causes.Version major minor) = refl
-header_cause_meant_lem Causes.CheckSequences = refl
-header_cause_meant_lem (Causes.LinkType number) = refl
-header_cause_meant_lem Causes.NoCapture = refl
+header_cause_meant_lem None = refl
+header_cause_meant_lem (Some Causes.Short) = refl
+header_cause_meant_lem (Some Causes.Pcapng) = refl
+header_cause_meant_lem (Some Causes.Nanoseconds) = refl
+header_cause_meant_lem (Some (Causes.Version major minor)) = refl
+header_cause_meant_lem (Some Causes.CheckSequences) = refl
+header_cause_meant_lem (Some (Causes.LinkType number)) = refl
+header_cause_meant_lem (Some Causes.NoCapture) = refl
 
-pub header_cause_own : (x y : HeaderCause) → header_cause_answer x ≡ header_cause_answer y → x ≡ y
+pub header_cause_own : (x y : Option HeaderCause) → header_cause_answer x ≡ header_cause_answer y → x ≡ y
 header_cause_own x y h = sym (header_cause_meant_lem x) ∙ ap header_cause_meant h ∙ header_cause_meant_lem y
 
 -- ---- what a record carries, and what is listed of it

@@ -3,8 +3,7 @@
 use Rattle.std.specs.Prelude.{ℕ, ◌+◌, ◌*◌, ◌≤◌, ◌≡◌, refl, true, ◌&&◌, List, [], ◌∷◌, ◌++◌, leb, length, drop}
 use Rattle.std.proofs.Common.{ap, arith, length-take, length-drop}
 use Rattle.wire_read.specs.Wire.{Bytes}
-use Rattle.sequence_record.specs.declared.Verdict.{Verdict}
-use Rattle.sequence_record.specs.declared.Verdict.TheVariants.{Refused}
+use Rattle.sequence_record.specs.Verdict.{Verdict, Refused}
 use Rattle.sequence_packet.specs.Packets.{read}
 use Rattle.sequence_table.specs.declared.table.Key.{Key}
 use Rattle.sequence_table.specs.Table.{Table, rooms, words, empty, find, packet}
@@ -15,8 +14,7 @@ use Rattle.capture_frame.specs.declared.Addresses.{Addresses}
 use Rattle.capture_frame.specs.declared.Part.{Part}
 use Rattle.capture_frame.specs.Frame.{carried, part_of, bytes_of_part}
 use Rattle.capture_frame.proofs.Laws as Frame
-use Rattle.capture_record.specs.declared.Listed.{Listed}
-use Rattle.capture_record.specs.declared.Listed.TheVariants.{ShortPacket}
+use Rattle.capture_record.specs.Listed.{Listed, ShortPacket}
 use Rattle.capture_record.specs.Listing.{key_of, is_eleven, listed}
 use Rattle.capture_record.proofs.Laws.{is_read}
 use Rattle.capture_record.proofs.Laws as Record

@@ -12,7 +12,7 @@ use Rattle.wire_read.specs.Tests.{if◌then◌otherwise◌}
 use Rattle.wire_read.specs.Answer.{Answer, done, refused}
 use Rattle.wire_read.proofs.Tests.{never, by_test}
 use Rattle.message_chain.specs.Message.{message, message_answer}
-use Rattle.message_chain.specs.declared.Message.TheVariants as read
+use Rattle.message_chain.specs.Message as read
 use Rattle.sa_fields.specs.Fields.{proposal_number}
 use Rattle.sa_proposals.specs.Proposals.{offer_code}
 use Rattle.sa_sets.specs.Sets.{set, set_count}
@@ -24,13 +24,13 @@ use Rattle.policy_suits.specs.Suits.{lowest, set_suits}
 use Rattle.policy_suiting.specs.Suiting.{Suits, LowestSuiting}
 use Rattle.policy_choice.specs.Choice.{line_count, number_of, transforms_of, chosen, choose_from, sa_from, message_choice, book_choice, choice, choice_answer, NoneSuits}
 use Rattle.policy_reply.specs.Reply.{reply_answer}
-use Rattle.policy_book.specs.declared.Book.{Book}
-use Rattle.policy_book.specs.declared.Book.TheVariants as books
+use Rattle.policy_book.specs.Book.{Book}
+use Rattle.policy_book.specs.Book as books
 use Rattle.policy_choice.specs.declared.Transforms.TheVariants.{One, Two}
-use Rattle.policy_choice.specs.declared.Choice.{Choice}
-use Rattle.policy_choice.specs.declared.Choice.TheVariants.{Refused, Chosen}
-use Rattle.policy_reply.specs.declared.Outcome.{Outcome}
-use Rattle.policy_reply.specs.declared.Outcome.TheVariants as replies
+use Rattle.policy_choice.specs.Choice.{Choice}
+use Rattle.policy_choice.specs.Choice.{Refused, Chosen}
+use Rattle.policy_reply.specs.Reply.{Outcome}
+use Rattle.policy_reply.specs.Reply as replies
 use Rattle.promises.specs.SequenceAnswers.{parts}
 use Rattle.promises.specs.Payloads as payloads
 use Rattle.policy_suiting.proofs.Laws.{suits_passed}

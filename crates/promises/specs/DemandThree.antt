@@ -10,8 +10,8 @@ use Rattle.policy_choice.specs.Choice.{body_at, choose_from, choice_answer}
 use Rattle.policy_lines.specs.declared.LineNumber.{LineNumber}
 use Rattle.policy_choice.specs.declared.Transforms.{Transforms}
 use Rattle.policy_choice.specs.declared.Transforms.TheVariants.{One, Two}
-use Rattle.policy_choice.specs.declared.Choice.{Choice}
-use Rattle.policy_choice.specs.declared.Choice.TheVariants as choices
+use Rattle.policy_choice.specs.Choice.{Choice}
+use Rattle.policy_choice.specs.Choice as choices
 use Rattle.quick_write.specs.Messages.{book_of, nonce_of}
 use Rattle.quick_shape.specs.Shapes.{nonce}
 use Rattle.quick_step.specs.Steps.{step_answer}

@@ -7,8 +7,8 @@ use Rattle.wire_read.specs.Wire.{Bytes}
 use Rattle.wire_read.proofs.Tests.{by_test}
 use Rattle.wire_write.specs.Put.{paste}
 use Rattle.wire_write.proofs.Laws.{paste-append, take-paste, paste_inside}
-use Rattle.policy_choice.specs.declared.Choice.{Choice}
-use Rattle.policy_choice.specs.declared.Choice.TheVariants as choices
+use Rattle.policy_choice.specs.Choice.{Choice}
+use Rattle.policy_choice.specs.Choice as choices
 use Rattle.quick_end.specs.Fresh.{is_initiator}
 use Rattle.quick_shape.specs.Shapes.{is_longer, alike, shape_of}
 use Rattle.quick_taken.specs.Taken.{taken_code}
@@ -19,7 +19,7 @@ use Rattle.quick_deliver.specs.Deliver.{delivery_code, opened, at_initiator, hal
 use Rattle.quick_end.specs.declared.End.{End}
 use Rattle.quick_end.specs.declared.State.{State}
 use Rattle.quick_end.specs.declared.State.TheVariants.{Idle, Sent, Half, Open, GivenUp}
-use Rattle.quick_step.specs.declared.Stepped.{Stepped}
+use Rattle.quick_step.specs.Steps.{Stepped}
 use Rattle.quick_exchange.specs.Exchange.{Party, Call, begin, deliver, tick, called, left, sent_of, got_of, FullSize}
 use Rattle.quick_exchange.proofs.Moves.{not-small}
 

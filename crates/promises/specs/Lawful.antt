@@ -19,8 +19,8 @@ use Rattle.wire_read.proofs.Tests.{never, by_test}
 use Rattle.wire_write.proofs.Laws.{paste_inside}
 use Rattle.message_header.specs.Header.{exchange_of}
 use Rattle.message_chain.specs.Message.{message}
-use Rattle.message_chain.specs.declared.Message.{Message}
-use Rattle.message_chain.specs.declared.Message.TheVariants as read
+use Rattle.message_chain.specs.Message.{Message}
+use Rattle.message_chain.specs.Message as read
 use Rattle.message_chain.proofs.Laws.{read_as}
 use Rattle.sa_proposals.specs.Proposals.{offer_code}
 use Rattle.sa_fields.specs.Fields.{proposal_number, protocol, transform_number}
@@ -30,21 +30,21 @@ use Rattle.sa_sets.specs.Sets.{set, set_count, set_numbered}
 use Rattle.sa_sets.proofs.Places.{set-by-number}
 use Rattle.sa_found.proofs.FoundLaws.{exchange-known}
 use Rattle.policy_book.specs.Book.{book_read}
-use Rattle.policy_book.specs.declared.Book.{Book}
-use Rattle.policy_book.specs.declared.Book.TheVariants as books
+use Rattle.policy_book.specs.Book.{Book}
+use Rattle.policy_book.specs.Book as books
 use Rattle.policy_lines.specs.declared.LineNumber.{LineNumber}
 use Rattle.policy_choice.specs.Choice.{choose_from, sa_from, message_choice, book_choice, choice}
-use Rattle.policy_choice.specs.declared.Choice.{Choice}
-use Rattle.policy_choice.specs.declared.Choice.TheVariants as choices
+use Rattle.policy_choice.specs.Choice.{Choice}
+use Rattle.policy_choice.specs.Choice as choices
 use Rattle.policy_choice.specs.declared.Transforms.{Transforms}
 use Rattle.policy_choice.proofs.ChoiceLaws.{sa_reads, sa_same, chose_says}
 use Rattle.policy_why.specs.Why.{message_offer}
 use Rattle.policy_reply.specs.Reply.{set_reply, sa_of, spis_low, set_replied, choice_replied, replied, reply_answer}
 use Rattle.policy_reply.proofs.ReplyLaws.{choice-short}
-use Rattle.policy_lawful.specs.declared.Difference.{Difference}
-use Rattle.policy_lawful.specs.declared.Difference.TheVariants.{Nothing, OfferRefused, ReplyRefused}
-use Rattle.policy_lawful.specs.declared.Lawfulness.{Lawfulness}
-use Rattle.policy_lawful.specs.declared.Lawfulness.TheVariants.{Refused, Lawful}
+use Rattle.policy_lawful.specs.Difference.{Difference}
+use Rattle.policy_lawful.specs.Difference.{Nothing, OfferRefused, ReplyRefused}
+use Rattle.policy_lawful.specs.Difference.{Lawfulness}
+use Rattle.policy_lawful.specs.Difference.{Refused, Lawful}
 use Rattle.policy_lawful.specs.Lawful.{◌or_else◌, offer_refused, book_refused, reply_refused, bodies_differ, choice_differs, unread, compared, first_difference, lawful_by, reply_lawful, lawful_answer}
 use Rattle.policy_lawful.proofs.LawfulWays.{else_last}
 use Rattle.policy_repeats.specs.Repeats.{content, RepeatsOffer, Takes, one, two, IsChoice}

@@ -3,10 +3,10 @@ use Rattle.std.specs.Prelude.{◌≡◌, refl, length, eqb}
 use Rattle.std.proofs.Common.{sym, ap, ◌∙◌}
 use Rattle.wire_read.specs.Tests.{if◌then◌otherwise◌}
 use Rattle.wire_read.specs.Answer.{Answer}
-use Rattle.policy_lawful.specs.declared.Difference.{Difference}
-use Rattle.policy_lawful.specs.declared.Difference.TheVariants.{Nothing, OfferRefused, BookRefused, ReplyRefused, SeveralSets, SetNotOffered, Protocols, Order, SeveralTransforms, TransformNotOffered, Id, Attributes, OtherSet, OtherTransform, NothingChosen}
-use Rattle.policy_lawful.specs.declared.Lawfulness.{Lawfulness}
-use Rattle.policy_lawful.specs.declared.Lawfulness.TheVariants.{Refused, Lawful}
+use Rattle.policy_lawful.specs.Difference.{Difference}
+use Rattle.policy_lawful.specs.Difference.{Nothing, OfferRefused, BookRefused, ReplyRefused, SeveralSets, SetNotOffered, Protocols, Order, SeveralTransforms, TransformNotOffered, Id, Attributes, OtherSet, OtherTransform, NothingChosen}
+use Rattle.policy_lawful.specs.Difference.{Lawfulness}
+use Rattle.policy_lawful.specs.Difference.{Refused, Lawful}
 use Rattle.policy_lawful.specs.Lawful.{lawful_answer, difference_values, difference_answer}
 use Rattle.promises.specs.WhyAnswers.{value, is_kind}
 

@@ -108,7 +108,7 @@ unfolding table replied_ah replied_esp choice_of esp_taking esp_twice example ah
     proposals.offer_code header.length_wrong header.major_wrong header.minor_wrong header.exchange_refused header.exchange_unknown header.flags_wrong
     header.cookie_zero header.message_id_wrong header.flagged_length_wrong header.no_payload header.header_code payloads.type_wrong payloads.length_out
     payloads.body_code payloads.body_of payloads.payload_code payloads.rest_code message.in_front message.chain message.reading attributes.value
-    attributes.attribute_count parts.skip parts.parts items.first_item items.after_item items.numbered sets.set_end sets.first_set sets.after_set
+    attributes.attribute_count parts.skip parts.parts items.first_item items.after_item parts.numbered sets.set_end sets.first_set sets.after_set
     sets.set sets.set_count sets.set_numbered items.proposal items.proposal_count items.transform_numbered fields.proposal_number fields.protocol
     fields.transform_count items.transform fields.transform_number fields.transform_id fields.attributes_of lines.quick_start lines.quick_count
     lines.book_size lines.quick_at lines.quick_protocols lines.quick_mode lines.quick_seconds books.quick_line_lawful books.main_lines_lawful

@@ -8,52 +8,52 @@ use Rattle.wire_read.specs.Wire.{Bytes}
 use Rattle.wire_read.specs.Answer.{Answer, refused}
 use Rattle.wire_read.proofs.Tests.{clash, by_test}
 use Rattle.port4500.specs.Port.{datagram, datagram_answer}
-use Rattle.port4500.specs.declared.Datagram.{Datagram}
-use Rattle.port4500.specs.declared.Datagram.TheVariants as datagrams
+use Rattle.port4500.specs.Port.{Datagram}
+use Rattle.port4500.specs.Port as datagrams
 use Rattle.message_chain.specs.Message.{message, message_answer}
-use Rattle.message_chain.specs.declared.Message.{Message}
-use Rattle.message_chain.specs.declared.Message.TheVariants as messages
+use Rattle.message_chain.specs.Message.{Message}
+use Rattle.message_chain.specs.Message as messages
 use Rattle.policy_book.specs.Book.{book_read, book_answer}
-use Rattle.policy_book.specs.declared.Book.{Book}
-use Rattle.policy_book.specs.declared.Book.TheVariants as books
+use Rattle.policy_book.specs.Book.{Book}
+use Rattle.policy_book.specs.Book as books
 use Rattle.sa_sets.specs.Sets.{set_numbered}
 use Rattle.policy_choice.specs.Choice.{choice, sa_from}
-use Rattle.policy_choice.specs.declared.Choice.{Choice}
-use Rattle.policy_choice.specs.declared.Choice.TheVariants as choices
+use Rattle.policy_choice.specs.Choice.{Choice}
+use Rattle.policy_choice.specs.Choice as choices
 use Rattle.policy_choice.specs.declared.Transforms.TheVariants.{One, Two}
 use Rattle.policy_reply.specs.Reply.{replied, reply_answer, choice_replied, set_replied, spis_low}
-use Rattle.policy_reply.specs.declared.Outcome.{Outcome}
-use Rattle.policy_reply.specs.declared.Outcome.TheVariants as outcomes
+use Rattle.policy_reply.specs.Reply.{Outcome}
+use Rattle.policy_reply.specs.Reply as outcomes
 use Rattle.policy_why.specs.Why.{why, why_answer, message_offer}
-use Rattle.policy_why.specs.declared.Why.{Why}
-use Rattle.policy_why.specs.declared.Why.TheVariants as whys
-use Rattle.policy_why.specs.declared.Offer.{Offer}
-use Rattle.policy_why.specs.declared.Offer.TheVariants as offers
+use Rattle.policy_why.specs.Why.{Why}
+use Rattle.policy_why.specs.Why as whys
+use Rattle.policy_why.specs.Offer.{Offer}
+use Rattle.policy_why.specs.Offer as offers
 use Rattle.policy_why.specs.declared.Places.{Places}
 use Rattle.sequence_record.specs.Receive.{judged, verdict_answer}
 use Rattle.sequence_record.specs.declared.Receive.{Receive}
 use Rattle.sequence_table.specs.Table.{Table, rooms, words as table_words, entry_at, put_entry, added, removed, packet, next_to_send, loss, sending_answer, counted_answer}
 use Rattle.sequence_table.specs.declared.table.Key.{Key}
 use Rattle.sequence_table.specs.declared.table.Entry.{Entry}
-use Rattle.sequence_table.specs.declared.table.Sending.{Sending}
-use Rattle.sequence_table.specs.declared.table.Sending.TheVariants as sendings
-use Rattle.sequence_table.specs.declared.table.Counted.{Counted}
-use Rattle.sequence_table.specs.declared.table.Counted.TheVariants as counts
+use Rattle.sequence_table.specs.Sending.{Sending}
+use Rattle.sequence_table.specs.Sending as sendings
+use Rattle.sequence_table.specs.Counted.{Counted}
+use Rattle.sequence_table.specs.Counted as counts
 use Rattle.sequence_table.proofs.Laws.{entry_put}
 use Rattle.sequence_history.specs.History.{is_done, answered, adds, removes, shows, sends}
 use Rattle.sequence_history.proofs.Record.{judged-refused}
 use Rattle.sequence_history.proofs.Ways.{refused-nothing}
 use Rattle.capture_header.specs.Headers.{file_header, file_header_answer, record_header, record_header_answer}
-use Rattle.capture_header.specs.declared.FileHeader.{FileHeader}
-use Rattle.capture_header.specs.declared.FileHeader.TheVariants as files
-use Rattle.capture_header.specs.declared.RecordHeader.{RecordHeader}
-use Rattle.capture_header.specs.declared.RecordHeader.TheVariants as records
+use Rattle.capture_header.specs.FileHeader.{FileHeader}
+use Rattle.capture_header.specs.FileHeader as files
+use Rattle.capture_header.specs.RecordHeader.{RecordHeader}
+use Rattle.capture_header.specs.RecordHeader as records
 use Rattle.wire_write.specs.Put.{paste}
-use Rattle.quick_end.specs.declared.Made.{Made}
+use Rattle.quick_end.specs.Fresh.{Made}
 use Rattle.quick_end.specs.declared.Progress.{Progress}
 use Rattle.quick_end.specs.declared.End.{End}
-use Rattle.quick_step.specs.declared.StepAnswer.{StepAnswer}
-use Rattle.quick_step.specs.declared.StepAnswer.TheVariants.{Send, Nothing, Refused}
+use Rattle.quick_step.specs.Steps.{StepAnswer}
+use Rattle.quick_step.specs.Steps.{Send, Nothing, Refused}
 use Rattle.quick_step.specs.Steps.{After, step_answer}
 use Rattle.quick_begin.specs.Begin.{begun}
 use Rattle.quick_tick.specs.Tick.{ticked}

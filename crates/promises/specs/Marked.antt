@@ -24,7 +24,7 @@ use Rattle.sequence_history.specs.History.{packets_of, in_turn, answers_to, loss
 use Rattle.quick_write.specs.Messages as messages
 use Rattle.quick_end.specs.Fresh as fresh
 use Rattle.quick_end.specs.declared.Role.TheVariants.{Initiator}
-use Rattle.quick_end.specs.declared.Made.{Made}
+use Rattle.quick_end.specs.Fresh.{Made}
 use Rattle.sequence_record.specs.Receive as receive
 use Rattle.sequence_packet.specs.Packets as packets
 use Rattle.sequence_table.specs.Table as tables

@@ -14,7 +14,7 @@ OneAnswer n ps r seen Post =
     Post κs arguments x s → Post κs arguments y t → seen κs x s ≡ seen κs y t
 
 -- What is seen of an answer: the result; of a part that is handed back, its bytes; of a buffer that is lent as the first argument, its bytes at
--- exit, alone or beside the result; and beside the result those of a buffer that is lent as the fifth.
+-- exit, alone or beside the result; and beside the result those of a buffer that is lent as the second or the fourth.
 abbrev pub result : {Lifetimes Result Exits : Type 0} → Lifetimes → Result → Exits → Result
 result κs x s = x
 
@@ -27,7 +27,10 @@ buffer κs x s = s.0.now
 abbrev pub result_and_buffer : {Lifetimes Result Bytes Exits : Type 0} → Lifetimes → Result → MutBor Bytes × Exits → Result × Bytes
 result_and_buffer κs x s = (x, s.0.now)
 
-abbrev pub result_and_fifth :
-    {Lifetimes Result First Second Third Fourth Bytes Exits : Type 0} →
-    Lifetimes → Result → First × (Second × (Third × (Fourth × (MutBor Bytes × Exits)))) → Result × Bytes
-result_and_fifth κs x s = (x, s.1.1.1.1.0.now)
+abbrev pub result_and_second : {Lifetimes Result First Bytes Exits : Type 0} → Lifetimes → Result → First × (MutBor Bytes × Exits) → Result × Bytes
+result_and_second κs x s = (x, s.1.0.now)
+
+abbrev pub result_and_fourth :
+    {Lifetimes Result First Second Third Bytes Exits : Type 0} →
+    Lifetimes → Result → First × (Second × (Third × (MutBor Bytes × Exits))) → Result × Bytes
+result_and_fourth κs x s = (x, s.1.1.1.0.now)

@@ -1,21 +1,24 @@
 -- No second answer, of the family capture (OneAnswer.antt says what that is).
 use Rattle.std.proofs.Common.{sym, ◌∙◌}
-use Rattle.promises.specs.OneAnswer.{OneAnswer, result, part, result_and_buffer}
+use Rattle.promises.specs.OneAnswer.{OneAnswer, result, part, result_and_buffer, result_and_second}
 use Rattle.promises.specs.OneAnswerBench.{said_once}
+use Rattle.capture_header.proofs.Laws.{file_header_told-injective, record_header_told-injective}
+use Rattle.promises.specs.OneAnswerSequence.{told_and_table}
+use Rattle.capture_record.proofs.Told.{listed_told-injective}
 use Rattle.capture_header.proofs.file_header.Kinds as file-header-kinds
 use Rattle.capture_header.proofs.file_header.Reads as file-header-reads
 use Rattle.capture_header.proofs.record_header.Kinds as record-header-kinds
 use Rattle.capture_header.proofs.record_header.Reads as record-header-reads
 use Rattle.capture_header.proofs.header_cause.Kinds as header-cause-kinds
 use Rattle.capture_header.proofs.header_cause.Reads as header-cause-reads
-use Rattle.capture_buffer.proofs.held_in.Kinds as held-in-kinds
-use Rattle.capture_buffer.proofs.held_in.Reads as held-in-reads
-use Rattle.capture_buffer.proofs.take.Kinds as take-kinds
-use Rattle.capture_buffer.proofs.take.Reads as take-reads
-use Rattle.capture_buffer.proofs.grow.Kinds as grow-kinds
-use Rattle.capture_buffer.proofs.grow.Reads as grow-reads
-use Rattle.capture_buffer.proofs.settle.Kinds as settle-kinds
-use Rattle.capture_buffer.proofs.settle.Reads as settle-reads
+use Rattle.capture_buffer.proofs.Held.held_in.Kinds as held-in-kinds
+use Rattle.capture_buffer.proofs.Held.held_in.Reads as held-in-reads
+use Rattle.capture_buffer.proofs.Held.take.Kinds as take-kinds
+use Rattle.capture_buffer.proofs.Held.take.Reads as take-reads
+use Rattle.capture_buffer.proofs.Held.grow.Kinds as grow-kinds
+use Rattle.capture_buffer.proofs.Held.grow.Reads as grow-reads
+use Rattle.capture_buffer.proofs.Held.settle.Kinds as settle-kinds
+use Rattle.capture_buffer.proofs.Held.settle.Reads as settle-reads
 use Rattle.capture_frame.proofs.carried.Kinds as carried-kinds
 use Rattle.capture_frame.proofs.carried.Reads as carried-reads
 use Rattle.capture_record.proofs.list_record.Kinds as list-record-kinds
@@ -32,10 +35,10 @@ use Rattle.capture_words.proofs.choice.Kinds as choice-kinds
 use Rattle.capture_words.proofs.choice.Reads as choice-reads
 
 pub capture_header-file_header : OneAnswer 1 file-header-kinds.ps file-header-kinds.r result file-header-reads.Post
-capture_header-file_header κs arguments x y s t p q = p ∙ sym q
+capture_header-file_header κs arguments x y s t p q = file_header_told-injective _ _ (p ∙ sym q)
 
 pub capture_header-record_header : OneAnswer 1 record-header-kinds.ps record-header-kinds.r result record-header-reads.Post
-capture_header-record_header κs arguments x y s t p q = p ∙ sym q
+capture_header-record_header κs arguments x y s t p q = record_header_told-injective _ _ (p ∙ sym q)
 
 pub capture_header-header_cause : OneAnswer 1 header-cause-kinds.ps header-cause-kinds.r result header-cause-reads.Post
 capture_header-header_cause κs arguments x y s t p q = p ∙ sym q
@@ -49,14 +52,14 @@ capture_buffer-take κs arguments x y s t p q = p ∙ sym q
 pub capture_buffer-grow : OneAnswer 1 grow-kinds.ps grow-kinds.r result grow-reads.Post
 capture_buffer-grow κs arguments x y s t p q = p ∙ sym q
 
-pub capture_buffer-settle : OneAnswer 1 settle-kinds.ps settle-kinds.r result_and_buffer settle-reads.Post
+pub capture_buffer-settle : OneAnswer 1 settle-kinds.ps settle-kinds.r result_and_second settle-reads.Post
 capture_buffer-settle κs arguments x y s t p q = sym p ∙ q
 
 pub capture_frame-carried : OneAnswer 1 carried-kinds.ps carried-kinds.r result carried-reads.Post
 capture_frame-carried κs arguments x y s t p q = p ∙ sym q
 
 pub capture_record-list_record : OneAnswer 2 list-record-kinds.ps list-record-kinds.r result_and_buffer list-record-reads.Post
-capture_record-list_record κs arguments x y s t p q = sym p ∙ q
+capture_record-list_record κs arguments x y s t p q = told_and_table listed_told-injective (sym p ∙ q)
 
 pub capture_record-handed_in : OneAnswer 1 handed-in-kinds.ps handed-in-kinds.r part handed-in-reads.Post
 capture_record-handed_in κs arguments x y s t p q = p ∙ sym q

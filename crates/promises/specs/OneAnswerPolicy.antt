@@ -1,8 +1,11 @@
 -- No second answer, of the family policy (OneAnswer.antt says what that is).
 use Rattle.std.proofs.Common.{sym, ◌∙◌}
-use Rattle.promises.specs.OneAnswer.{OneAnswer, result, part, result_and_buffer, result_and_fifth}
-use Rattle.policy_lines.proofs.place.Kinds as place-kinds
-use Rattle.policy_lines.proofs.place.Reads as place-reads
+use Rattle.policy_book.proofs.Told.{book_told-injective}
+use Rattle.policy_choice.proofs.Told.{choice_told-injective}
+use Rattle.policy_reply.proofs.Told.{outcome_told-beside}
+use Rattle.promises.specs.OneAnswer.{OneAnswer, result, part, result_and_buffer, result_and_fourth}
+use Rattle.policy_lines.proofs.LineNumber.place.Kinds as place-kinds
+use Rattle.policy_lines.proofs.LineNumber.place.Reads as place-reads
 use Rattle.policy_lines.proofs.quick_count.Kinds as quick-count-kinds
 use Rattle.policy_lines.proofs.quick_count.Reads as quick-count-reads
 use Rattle.policy_lines.proofs.book_size.Kinds as book-size-kinds
@@ -59,6 +62,8 @@ use Rattle.policy_why.proofs.offered.Kinds as offered-kinds
 use Rattle.policy_why.proofs.offered.Reads as offered-reads
 use Rattle.policy_why.proofs.is_place.Kinds as is-place-kinds
 use Rattle.policy_why.proofs.is_place.Reads as is-place-reads
+use Rattle.policy_why.proofs.Told.{offer_told-injective, why_told-injective}
+use Rattle.policy_lawful.proofs.Told.{difference_told-injective, lawful_told-injective}
 use Rattle.policy_why.proofs.cause_at.Kinds as cause-at-kinds
 use Rattle.policy_why.proofs.cause_at.Reads as cause-at-reads
 use Rattle.policy_lawful.proofs.first_difference.Kinds as first-difference-kinds
@@ -97,7 +102,7 @@ pub policy_book-book_in_front : OneAnswer 1 book-in-front-kinds.ps book-in-front
 policy_book-book_in_front κs arguments x y s t p q = p ∙ sym q
 
 pub policy_book-read_book : OneAnswer 1 read-book-kinds.ps read-book-kinds.r result read-book-reads.Post
-policy_book-read_book κs arguments x y s t p q = p ∙ sym q
+policy_book-read_book κs arguments x y s t p q = book_told-injective _ _ (p ∙ sym q)
 
 pub policy_suits-quick_id : OneAnswer 0 quick-id-kinds.ps quick-id-kinds.r result quick-id-reads.Post
 policy_suits-quick_id κs arguments x y s t p q = p ∙ sym q
@@ -133,7 +138,7 @@ pub policy_cause-pair_cause : OneAnswer 2 pair-cause-kinds.ps pair-cause-kinds.r
 policy_cause-pair_cause κs arguments x y s t p q = p ∙ sym q
 
 pub policy_choice-choose_from : OneAnswer 2 choose-from-kinds.ps choose-from-kinds.r result choose-from-reads.Post
-policy_choice-choose_from κs arguments x y s t p q = p ∙ sym q
+policy_choice-choose_from κs arguments x y s t p q = choice_told-injective _ _ (p ∙ sym q)
 
 pub policy_choice-body_at : OneAnswer 1 body-at-kinds.ps body-at-kinds.r part body-at-reads.Post
 policy_choice-body_at κs arguments x y s t p q = p ∙ sym q
@@ -148,25 +153,25 @@ pub policy_choice-sa_of : OneAnswer 1 sa-of-kinds.ps sa-of-kinds.r part sa-of-re
 policy_choice-sa_of κs arguments x y s t p q = p ∙ sym q
 
 pub policy_choice-choose : OneAnswer 2 choose-kinds.ps choose-kinds.r result choose-reads.Post
-policy_choice-choose κs arguments x y s t p q = p ∙ sym q
+policy_choice-choose κs arguments x y s t p q = choice_told-injective _ _ (p ∙ sym q)
 
 pub policy_why-message_offer : OneAnswer 1 message-offer-kinds.ps message-offer-kinds.r result message-offer-reads.Post
-policy_why-message_offer κs arguments x y s t p q = p ∙ sym q
+policy_why-message_offer κs arguments x y s t p q = offer_told-injective _ _ (p ∙ sym q)
 
 pub policy_why-offered : OneAnswer 2 offered-kinds.ps offered-kinds.r result offered-reads.Post
-policy_why-offered κs arguments x y s t p q = p ∙ sym q
+policy_why-offered κs arguments x y s t p q = offer_told-injective _ _ (p ∙ sym q)
 
 pub policy_why-is_place : OneAnswer 1 is-place-kinds.ps is-place-kinds.r result is-place-reads.Post
 policy_why-is_place κs arguments x y s t p q = p ∙ sym q
 
 pub policy_why-cause_at : OneAnswer 2 cause-at-kinds.ps cause-at-kinds.r result cause-at-reads.Post
-policy_why-cause_at κs arguments x y s t p q = p ∙ sym q
+policy_why-cause_at κs arguments x y s t p q = why_told-injective _ _ (p ∙ sym q)
 
 pub policy_lawful-first_difference : OneAnswer 3 first-difference-kinds.ps first-difference-kinds.r result first-difference-reads.Post
-policy_lawful-first_difference κs arguments x y s t p q = p ∙ sym q
+policy_lawful-first_difference κs arguments x y s t p q = difference_told-injective _ _ (p ∙ sym q)
 
 pub policy_lawful-reply_lawful : OneAnswer 3 reply-lawful-kinds.ps reply-lawful-kinds.r result reply-lawful-reads.Post
-policy_lawful-reply_lawful κs arguments x y s t p q = p ∙ sym q
+policy_lawful-reply_lawful κs arguments x y s t p q = lawful_told-injective _ _ (p ∙ sym q)
 
 pub policy_reply-put_proposal : OneAnswer 2 put-proposal-kinds.ps put-proposal-kinds.r result_and_buffer put-proposal-reads.Post
 policy_reply-put_proposal κs arguments x y s t p q = sym p ∙ q
@@ -174,5 +179,5 @@ policy_reply-put_proposal κs arguments x y s t p q = sym p ∙ q
 pub policy_reply-put_reply : OneAnswer 2 put-reply-kinds.ps put-reply-kinds.r result_and_buffer put-reply-reads.Post
 policy_reply-put_reply κs arguments x y s t p q = sym p ∙ q
 
-pub policy_reply-reply : OneAnswer 3 reply-kinds.ps reply-kinds.r result_and_fifth reply_reads.Post
-policy_reply-reply κs arguments x y s t p q = sym p ∙ q
+pub policy_reply-reply : OneAnswer 3 reply-kinds.ps reply-kinds.r result_and_fourth reply_reads.Post
+policy_reply-reply κs arguments x y s t p q = outcome_told-beside _ _ _ _ (sym p ∙ q)

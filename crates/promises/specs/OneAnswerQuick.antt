@@ -54,8 +54,11 @@ use Rattle.quick_tick.proofs.tick.Kinds as tick-kinds
 use Rattle.quick_tick.proofs.tick.Reads as tick-reads
 use Rattle.quick_deliver.proofs.deliver.Kinds as deliver-kinds
 use Rattle.quick_deliver.proofs.deliver.Reads as deliver-reads
+use Rattle.refusal.proofs.Laws.{coded-injective}
+use Rattle.quick_end.proofs.Told.{made_told-injective}
 use Rattle.quick_step.specs.Steps.{After}
 use Rattle.quick_step.specs.declared.Stepped.{Stepped}
+use Rattle.quick_step.proofs.Told.{step_of, step-same}
 
 pub quick_end-is_idle : OneAnswer 0 is-idle-kinds.ps is-idle-kinds.r result is-idle-reads.Post
 quick_end-is_idle κs arguments x y s t p q = p ∙ sym q
@@ -67,7 +70,7 @@ pub quick_end-is_given_up : OneAnswer 0 is-given-up-kinds.ps is-given-up-kinds.r
 quick_end-is_given_up κs arguments x y s t p q = p ∙ sym q
 
 pub quick_end-fresh : OneAnswer 2 fresh-kinds.ps fresh-kinds.r result fresh-reads.Post
-quick_end-fresh κs arguments x y s t p q = p ∙ sym q
+quick_end-fresh κs arguments x y s t p q = made_told-injective _ _ _ (p ∙ sym q)
 
 pub quick_shape-shape : OneAnswer 1 shape-kinds.ps shape-kinds.r result shape-reads.Post
 quick_shape-shape κs arguments x y s t p q = p ∙ sym q
@@ -109,10 +112,10 @@ pub quick_agreed-own_spis : OneAnswer 1 own-spis-kinds.ps own-spis-kinds.r resul
 quick_agreed-own_spis κs arguments x y s t p q = p ∙ sym q
 
 pub quick_check-read_code : OneAnswer 1 read-code-kinds.ps read-code-kinds.r result read-code-reads.Post
-quick_check-read_code κs arguments x y s t p q = p ∙ sym q
+quick_check-read_code κs arguments x y s t p q = coded-injective _ _ (p ∙ sym q)
 
 pub quick_taken-taken_code : OneAnswer 2 taken-code-kinds.ps taken-code-kinds.r result taken-code-reads.Post
-quick_taken-taken_code κs arguments x y s t p q = p ∙ sym q
+quick_taken-taken_code κs arguments x y s t p q = coded-injective _ _ (p ∙ sym q)
 
 pub quick_taken-agreed_two : OneAnswer 2 agreed-two-kinds.ps agreed-two-kinds.r result agreed-two-reads.Post
 quick_taken-agreed_two κs arguments x y s t p q = p ∙ sym q
@@ -130,16 +133,20 @@ pub quick_begin-begin :
     OneAnswer 5 begin-kinds.ps begin-kinds.r {A = Stepped × List ℕ × List ℕ}
     (λ κs x s. let lent = s.1.1.1.1 in (x, lent.0.now, lent.1.1.0.now))
     begin-reads.Post
-quick_begin-begin κs arguments x y s t p q = ap (λ (a : After). (a.step, a.sent, a.output)) (sym p ∙ q)
+quick_begin-begin κs arguments x y s t p q =
+    ap (λ (left : Stepped × (List ℕ × List ℕ)). (left.0, left.1.0, left.1.1))
+    (step-same {A = List ℕ × List ℕ} x y _ _ (ap (λ (a : After). (step_of a.step, (a.sent, a.output))) (sym p ∙ q)))
 
 pub quick_tick-tick :
     OneAnswer 3 tick-kinds.ps tick-kinds.r {A = Stepped × List ℕ}
     (λ κs x s. let output = s.1.1.1.0 in (x, output.now))
     tick-reads.Post
-quick_tick-tick κs arguments x y s t p q = ap (λ (a : After). (a.step, a.output)) (sym p ∙ q)
+quick_tick-tick κs arguments x y s t p q = step-same x y _ _ (ap (λ (a : After). (step_of a.step, a.output)) (sym p ∙ q))
 
 pub quick_deliver-deliver :
-    OneAnswer 4 deliver-kinds.ps deliver-kinds.r {A = After}
-    (λ κs x s. let lent = s.1.1.1 in record { step = x; sent = lent.0.now; got = lent.1.0.now; output = lent.1.1.0.now })
+    OneAnswer 4 deliver-kinds.ps deliver-kinds.r {A = Stepped × List ℕ × List ℕ × List ℕ}
+    (λ κs x s. let lent = s.1.1.1 in (x, lent.0.now, lent.1.0.now, lent.1.1.0.now))
     deliver-reads.Post
-quick_deliver-deliver κs arguments x y s t p q = sym p ∙ q
+quick_deliver-deliver κs arguments x y s t p q =
+    ap (λ (left : Stepped × (List ℕ × List ℕ × List ℕ)). (left.0, left.1.0, left.1.1, left.1.2))
+    (step-same {A = List ℕ × List ℕ × List ℕ} x y _ _ (ap (λ (a : After). (step_of a.step, (a.sent, a.got, a.output))) (sym p ∙ q)))

@@ -1,5 +1,6 @@
 -- No second answer, of the family sa (OneAnswer.antt says what that is).
 use Rattle.std.proofs.Common.{sym, ◌∙◌}
+use Rattle.refusal.proofs.Laws.{coded-injective}
 use Rattle.promises.specs.OneAnswer.{OneAnswer, result, part}
 use Rattle.sa_attribute.proofs.sent_fixed.Kinds as sent-fixed-kinds
 use Rattle.sa_attribute.proofs.sent_fixed.Reads as sent-fixed-reads
@@ -69,16 +70,16 @@ pub sa_attribute-attribute_count : OneAnswer 1 attribute-count-kinds.ps attribut
 sa_attribute-attribute_count κs arguments x y s t p q = p ∙ sym q
 
 pub sa_coding-attributes_code : OneAnswer 1 attributes-code-kinds.ps attributes-code-kinds.r result attributes-code-reads.Post
-sa_coding-attributes_code κs arguments x y s t p q = p ∙ sym q
+sa_coding-attributes_code κs arguments x y s t p q = coded-injective _ _ (p ∙ sym q)
 
 pub sa_transforms-transforms_code : OneAnswer 1 transforms-code-kinds.ps transforms-code-kinds.r result transforms-code-reads.Post
-sa_transforms-transforms_code κs arguments x y s t p q = p ∙ sym q
+sa_transforms-transforms_code κs arguments x y s t p q = coded-injective _ _ (p ∙ sym q)
 
 pub sa_proposals-transform_bytes : OneAnswer 1 transform-bytes-kinds.ps transform-bytes-kinds.r part transform-bytes-reads.Post
 sa_proposals-transform_bytes κs arguments x y s t p q = p ∙ sym q
 
 pub sa_proposals-offer_code : OneAnswer 1 offer-code-kinds.ps offer-code-kinds.r result offer-code-reads.Post
-sa_proposals-offer_code κs arguments x y s t p q = p ∙ sym q
+sa_proposals-offer_code κs arguments x y s t p q = coded-injective _ _ (p ∙ sym q)
 
 pub sa_fields-proposal_number : OneAnswer 1 proposal-number-kinds.ps proposal-number-kinds.r result proposal-number-reads.Post
 sa_fields-proposal_number κs arguments x y s t p q = p ∙ sym q

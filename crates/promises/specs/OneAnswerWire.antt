@@ -1,5 +1,9 @@
 -- No second answer, of the family wire (OneAnswer.antt says what that is).
 use Rattle.std.proofs.Common.{sym, ◌∙◌}
+use denote.RattleType.{RattleType}
+use denote.Param.Laws.{Laws}
+use mir.Syntax.{Dict}
+use Rattle.wire_read.specs.declared.parted.Parted.{Ghosts}
 use Rattle.promises.specs.OneAnswer.{OneAnswer, result, part, buffer, result_and_buffer}
 use Rattle.wire_read.proofs.byte.Kinds as byte-kinds
 use Rattle.wire_read.proofs.byte.Reads as byte-Reads
@@ -17,6 +21,12 @@ use Rattle.wire_read.proofs.all_zero.Kinds as all-zero-kinds
 use Rattle.wire_read.proofs.all_zero.Reads as all-zero-reads
 use Rattle.wire_read.proofs.equal.Kinds as equal-kinds
 use Rattle.wire_read.proofs.equal.Reads as equal-reads
+use Rattle.wire_read.proofs.parted.skip.Kinds as skip-kinds
+use Rattle.wire_read.proofs.parted.skip.Reads as skip-reads
+use Rattle.wire_read.proofs.parted.parts.Kinds as parts-kinds
+use Rattle.wire_read.proofs.parted.parts.Reads as parts-reads
+use Rattle.wire_read.proofs.parted.numbered.Kinds as numbered-kinds
+use Rattle.wire_read.proofs.parted.numbered.Reads as numbered-reads
 use Rattle.wire_write.proofs.put_bytes.Kinds as put-bytes-kinds
 use Rattle.wire_write.proofs.put_bytes.Reads as put-bytes-reads
 use Rattle.wire_write.proofs.put_byte.Kinds as put-byte-kinds
@@ -55,6 +65,17 @@ wire_read-all_zero κs arguments x y s t p q = p ∙ sym q
 
 pub wire_read-equal : OneAnswer 2 equal-kinds.ps equal-kinds.r result equal-reads.Post
 wire_read-equal κs arguments x y s t p q = p ∙ sym q
+
+-- of a function over a trait: whatever type it is asked for
+module _ (P : RattleType) (laws : Laws P) (ghosts : Ghosts P.Denot) (dict : Dict) where
+  pub wire_read-skip : OneAnswer 2 (skip-kinds.ps P laws) (skip-kinds.r P laws) part (skip-reads.Post P laws ghosts dict)
+  wire_read-skip κs arguments x y s t p q = p ∙ sym q
+
+  pub wire_read-parts : OneAnswer 2 (parts-kinds.ps P laws) (parts-kinds.r P laws) result (parts-reads.Post P laws ghosts dict)
+  wire_read-parts κs arguments x y s t p q = p ∙ sym q
+
+  pub wire_read-numbered : OneAnswer 2 (numbered-kinds.ps P laws) (numbered-kinds.r P laws) part (numbered-reads.Post P laws ghosts dict)
+  wire_read-numbered κs arguments x y s t p q = p ∙ sym q
 
 pub wire_write-put_bytes : OneAnswer 2 put-bytes-kinds.ps put-bytes-kinds.r buffer put-bytes-reads.Post
 wire_write-put_bytes κs arguments x y s t p q = p ∙ sym q

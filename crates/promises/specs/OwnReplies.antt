@@ -6,9 +6,9 @@ use Rattle.std.proofs.Common.{sym, ap, ◌∙◌}
 use Rattle.wire_read.specs.Wire.{Bytes}
 use Rattle.sa_sets.specs.Sets.{set_numbered}
 use Rattle.policy_book.specs.Book.{book_read}
-use Rattle.policy_book.specs.declared.Book.TheVariants as books
+use Rattle.policy_book.specs.Book as books
 use Rattle.policy_choice.specs.Choice.{choose_from}
-use Rattle.policy_choice.specs.declared.Choice.TheVariants.{Chosen}
+use Rattle.policy_choice.specs.Choice.{Chosen}
 use Rattle.policy_reply.specs.Reply.{set_reply, sa_of, spis_low}
 use Rattle.quick_write.specs.Messages.{book_of}
 use Rattle.quick_end.specs.declared.Role.TheVariants.{Responder}

@@ -6,8 +6,8 @@ use Rattle.wire_read.specs.Answer.{done}
 use Rattle.message_header.specs.Header.{exchange_of}
 use Rattle.message_chain.specs.Message.{nth, reading, payload_at, message_answer, shown, shown_payloads}
 use Rattle.message_chain.specs.declared.Payload.{Payload}
-use Rattle.message_chain.specs.declared.Message.{Message}
-use Rattle.message_chain.specs.declared.Message.TheVariants.{Refused, Read}
+use Rattle.message_chain.specs.Message.{Message}
+use Rattle.message_chain.specs.Message.{Refused, Read}
 use Rattle.wire_read.proofs.Tests.{never}
 use Rattle.promises.specs.SequenceAnswers.{parts}
 

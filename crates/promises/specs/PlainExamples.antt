@@ -3,7 +3,7 @@
 use Rattle.std.specs.Prelude.{ℕ, ◌-◌, ◌^◌, ◌≡◌, refl, Bool, true, false, List, [], ◌∷◌, ◌++◌, map, replicate}
 use Rattle.wire_read.specs.Answer.{Answer, done, refused}
 use Rattle.sequence_record.specs.Receive as receive
-use Rattle.sequence_table.specs.declared.table.Counted.TheVariants.{Line}
+use Rattle.sequence_table.specs.Counted.{Line}
 use Rattle.sequence_table.specs.Table.{counted_answer}
 use Rattle.sequence_history.specs.History as history
 use Rattle.sequence_plain.specs.Plain as plain

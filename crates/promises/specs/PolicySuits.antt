@@ -9,18 +9,18 @@ use Rattle.wire_read.specs.Tests.{if◌then◌otherwise◌}
 use Rattle.wire_read.specs.Answer.{Answer, done, refused}
 use Rattle.wire_read.proofs.Tests.{never, clash, both, by_test, passed}
 use Rattle.message_chain.specs.Message.{message, message_answer, payload_at}
-use Rattle.message_chain.specs.declared.Message.{Message}
-use Rattle.message_chain.specs.declared.Message.TheVariants as read
+use Rattle.message_chain.specs.Message.{Message}
+use Rattle.message_chain.specs.Message as read
 use Rattle.message_chain.proofs.Laws.{refusal_some}
 use Rattle.sa_proposals.specs.Proposals.{offer_code}
 use Rattle.sa_sets.specs.Sets.{set, set_count}
 use Rattle.policy_lines.specs.Lines.{main_count, quick_count, book_size}
 use Rattle.policy_book.specs.Book.{book_in_front, book_read, book_answer}
-use Rattle.policy_book.specs.declared.Book.TheVariants as books
+use Rattle.policy_book.specs.Book as books
 use Rattle.policy_suiting.specs.Suiting.{Suits}
 use Rattle.policy_choice.specs.Choice.{line_count, choose_from, body_at, sa_from, choice, choice_answer, NoneSuits}
-use Rattle.policy_choice.specs.declared.Choice.{Choice}
-use Rattle.policy_choice.specs.declared.Choice.TheVariants as choices
+use Rattle.policy_choice.specs.Choice.{Choice}
+use Rattle.policy_choice.specs.Choice as choices
 use Rattle.policy_choice.proofs.ChoiceLaws.{body_reads}
 use Rattle.quick_write.specs.Messages.{book_of}
 use Rattle.quick_end.specs.Fresh.{is_given_up}

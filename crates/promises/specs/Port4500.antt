@@ -7,8 +7,8 @@ use Rattle.wire_read.specs.Answer.{Answer, done}
 use Rattle.wire_read.proofs.Tests.{never}
 use Rattle.wire_read.proofs.Laws.{equal-true}
 use Rattle.port4500.specs.Port.{marker, datagram, handed_on, datagram_answer}
-use Rattle.port4500.specs.declared.Datagram.{Datagram}
-use Rattle.port4500.specs.declared.Datagram.TheVariants.{Keepalive, KeyExchange, Esp, Refused}
+use Rattle.port4500.specs.Port.{Datagram}
+use Rattle.port4500.specs.Port.{Keepalive, KeyExchange, Esp, Refused}
 
 -- the answer that a number and values stand for
 abbrev meant : (a : Answer) → Datagram

@@ -8,8 +8,8 @@ use Rattle.wire_read.specs.Wire.{Bytes}
 use Rattle.wire_read.specs.Tests.{if◌then◌otherwise◌}
 use Rattle.wire_read.specs.Answer.{Answer, done, refused}
 use Rattle.wire_read.proofs.Tests.{never, by_test}
-use Rattle.policy_choice.specs.declared.Choice.{Choice}
-use Rattle.policy_choice.specs.declared.Choice.TheVariants as choices
+use Rattle.policy_choice.specs.Choice.{Choice}
+use Rattle.policy_choice.specs.Choice as choices
 use Rattle.quick_end.specs.Fresh.{is_initiator}
 use Rattle.quick_shape.specs.Shapes.{is_longer, alike, shape_of}
 use Rattle.quick_taken.specs.Taken.{taken_code}
@@ -20,8 +20,8 @@ use Rattle.quick_deliver.specs.Deliver.{opened, at_initiator, halfway, after_cho
 use Rattle.quick_end.specs.declared.End.{End}
 use Rattle.quick_end.specs.declared.State.{State}
 use Rattle.quick_end.specs.declared.State.TheVariants.{Idle, Sent, Half, Open, GivenUp}
-use Rattle.quick_step.specs.declared.StepAnswer.{StepAnswer}
-use Rattle.quick_step.specs.declared.StepAnswer.TheVariants.{Send, Nothing, Refused}
+use Rattle.quick_step.specs.Steps.{StepAnswer}
+use Rattle.quick_step.specs.Steps.{Send, Nothing, Refused}
 use Rattle.quick_exchange.specs.Exchange.{Party, said, World, Run, Fresh}
 use Rattle.quick_exchange.specs.Readable.{AllReadable}
 use Rattle.quick_exchange.proofs.Moves.{refused-is, by-begin, by-tick, by-delivery}

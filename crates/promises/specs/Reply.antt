@@ -19,7 +19,7 @@ use Rattle.policy_choice.specs.Choice.{sa_from}
 use Rattle.policy_reply.specs.Reply.{own_spi, reply_answer}
 use Rattle.policy_choice.specs.declared.Transforms.{Transforms}
 use Rattle.policy_choice.specs.declared.Transforms.TheVariants.{One, Two}
-use Rattle.policy_reply.specs.declared.Outcome.{Outcome}
+use Rattle.policy_reply.specs.Reply.{Outcome}
 
 -- ---- what is promised
 

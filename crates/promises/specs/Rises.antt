@@ -6,8 +6,7 @@ use Rattle.wire_read.specs.Tests.{if◌then◌otherwise◌}
 use Rattle.wire_read.specs.Answer.{done}
 use Rattle.wire_read.proofs.Tests.{clash, by_test}
 use Rattle.sequence_record.specs.declared.Receive.{Receive}
-use Rattle.sequence_record.specs.declared.Verdict.{Verdict}
-use Rattle.sequence_record.specs.declared.Verdict.TheVariants.{Accepted, Refused}
+use Rattle.sequence_record.specs.Verdict.{Verdict, Accepted, Refused}
 use Rattle.sequence_record.specs.Receive.{new_receive, judged, verdict_answer}
 use Rattle.sequence_table.specs.declared.table.Key.{Key}
 use Rattle.sequence_table.specs.Table.{Table, rooms, words, empty}

@@ -1,8 +1,9 @@
 -- Sequence numbers, in the demands' words. Definitions and proofs stand in crates/sequence_history.
-use Rattle.std.specs.Prelude.{ℕ, ◌*◌, ◌<◌, min, ◌≡◌, refl, Bool, false, List, [], ◌∷◌, length}
+use Rattle.std.specs.Prelude.{ℕ, ◌*◌, ◌<◌, min, ◌≡◌, refl, Bool, false, List, [], ◌∷◌, length, Result}
 use Rattle.std.proofs.Common.{ap}
 use Rattle.sequence_record.specs.declared.Receive.{Receive}
-use Rattle.sequence_record.specs.declared.Verdict.{Verdict}
+use Rattle.refusal.specs.declared.Refusal.{Refusal}
+use Rattle.sequence_record.specs.Verdict.{verdict_told}
 use Rattle.sequence_table.specs.declared.table.Key.{Key}
 use Rattle.sequence_record.specs.Receive.{new_receive, judged, loss_line, verdict_answer}
 use Rattle.sequence_packet.specs.Packets.{read, packet_answer}
@@ -80,15 +81,15 @@ lent_from_new = Keys.lent_from_new
 -- that the answers are `lent_answers` and the record after them is `lent_after`.
 pub data LentRun : (before : Receive) (numbers : List (Bool × ℕ)) (answers : List Answer) (after : Receive) → Type 0 where
   no_call : {r : Receive} → LentRun r [] [] r
-  call : {before next after : Receive} {number : ℕ} {integrity : Bool} {verdict : Verdict} {numbers : List (Bool × ℕ)} {answers : List Answer} →
+  call : {before next after : Receive} {number : ℕ} {integrity : Bool} (verdict : Result ℕ Refusal) {numbers : List (Bool × ℕ)} {answers : List Answer} →
       Lent before number integrity next verdict → LentRun next numbers answers after →
-      LentRun before ((integrity, number) ∷ numbers) (verdict_answer verdict ∷ answers) after
+      LentRun before ((integrity, number) ∷ numbers) (verdict_answer (verdict_told verdict) ∷ answers) after
 
 pub lent-run : {before after : Receive} {numbers : List (Bool × ℕ)} {answers : List Answer} → LentRun before numbers answers after →
     (answers ≡ lent_answers before numbers) × (after ≡ lent_after before numbers)
 unfolding lent_answers lent_after
 lent-run no_call = (refl, refl)
-lent-run (call {verdict = verdict} lent run) = let q = lent-run run in rw lent (ap (λ (l : List Answer). verdict_answer verdict ∷ l) q.0, q.1)
+lent-run (call verdict lent run) = let q = lent-run run in rw lent (ap (λ (l : List Answer). verdict_answer (verdict_told verdict) ∷ l) q.0, q.1)
 
 -- For every sequence of steps from a new record: the next answer is the one worked out afresh from the numbers that the answers before it
 -- accepted; none is accepted twice; and the loss line gives H, the lesser of H and 64, and how many of those last numbers were accepted.

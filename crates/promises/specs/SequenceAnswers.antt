@@ -3,16 +3,15 @@ use Rattle.std.specs.Prelude.{◌≡◌, refl, get_or}
 use Rattle.std.proofs.Common.{ap}
 use Rattle.wire_read.specs.Answer.{Answer}
 use Rattle.wire_read.proofs.Tests.{never}
-use Rattle.sequence_record.specs.declared.Verdict.{Verdict}
-use Rattle.sequence_packet.specs.declared.Packet.{Packet}
-use Rattle.sequence_packet.specs.declared.Packet.TheVariants.{Read, Refused}
-use Rattle.sequence_table.specs.declared.table.Outcome.{Outcome}
-use Rattle.sequence_table.specs.declared.table.Outcome.TheVariants as Outcomes
-use Rattle.sequence_table.specs.declared.table.Sending.{Sending}
-use Rattle.sequence_table.specs.declared.table.Sending.TheVariants as Sendings
-use Rattle.sequence_table.specs.declared.table.Counted.{Counted}
-use Rattle.sequence_table.specs.declared.table.Counted.TheVariants as Counts
-use Rattle.sequence_record.specs.declared.Verdict.TheVariants as Verdicts
+use Rattle.sequence_record.specs.Verdict.{Verdict}
+use Rattle.sequence_packet.specs.Packet.{Packet, Read, Refused}
+use Rattle.sequence_table.specs.Outcome.{Outcome}
+use Rattle.sequence_table.specs.Outcome as Outcomes
+use Rattle.sequence_table.specs.Sending.{Sending}
+use Rattle.sequence_table.specs.Sending as Sendings
+use Rattle.sequence_table.specs.Counted.{Counted}
+use Rattle.sequence_table.specs.Counted as Counts
+use Rattle.sequence_record.specs.Verdict as Verdicts
 use Rattle.sequence_record.specs.Receive.{verdict_answer}
 use Rattle.sequence_packet.specs.Packets.{packet_answer}
 use Rattle.sequence_table.specs.Table.{outcome_answer, sending_answer, counted_answer}

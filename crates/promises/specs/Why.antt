@@ -3,7 +3,7 @@
 -- must be true of that transform, and a pair shows "suits" exactly when document 01 as amended says so." What a cause says is `Says` of
 -- policy_truth, over lists and with no search in it; what suits is `Suits`, as the choice has it. Shut out: a cause that names an attribute that
 -- is there, a later cause where an earlier one holds, and `suits` shown for half a set.
-use Rattle.std.specs.Prelude.{ℕ, ◌+◌, ◌<◌, ◌≡◌, refl, ◌⊎◌, List, ◌∷◌, Bool, true, false, not, length, get_or, ltb, leb, eqb}
+use Rattle.std.specs.Prelude.{ℕ, Option, None, Some, ◌+◌, ◌<◌, ◌≡◌, refl, ◌⊎◌, List, ◌∷◌, Bool, true, false, not, length, get_or, ltb, leb, eqb}
 use Rattle.std.proofs.Math.Path.{sym}
 use Rattle.std.proofs.Common.{ap, ◌∙◌, inl, inr, arith}
 use borrow.Author.Tests.{eqb-true, ne_eqb, lt-ltb, ltb-true, lt-leb, leb-false, not-false}
@@ -12,8 +12,8 @@ use Rattle.wire_read.specs.Tests.{if◌then◌otherwise◌}
 use Rattle.wire_read.specs.Answer.{Answer, done, refused}
 use Rattle.wire_read.proofs.Tests.{never, clash, both, by_test}
 use Rattle.message_chain.specs.Message.{message}
-use Rattle.message_chain.specs.declared.Message.{Message}
-use Rattle.message_chain.specs.declared.Message.TheVariants as read
+use Rattle.message_chain.specs.Message.{Message}
+use Rattle.message_chain.specs.Message as read
 use Rattle.sa_fields.specs.Fields.{proposal_number, protocol, transform_count}
 use Rattle.sa_proposals.specs.Proposals.{offer_code}
 use Rattle.sa_proposals.proofs.Laws.{Item}
@@ -22,8 +22,8 @@ use Rattle.sa_items.proofs.Laws.{transform-lawful}
 use Rattle.sa_sets.specs.Sets.{set, set_count}
 use Rattle.sa_sets.proofs.Places.{set-lawful}
 use Rattle.policy_book.specs.Book.{book_read}
-use Rattle.policy_book.specs.declared.Book.{Book}
-use Rattle.policy_book.specs.declared.Book.TheVariants as books
+use Rattle.policy_book.specs.Book.{Book}
+use Rattle.policy_book.specs.Book as books
 use Rattle.policy_suits.specs.Suits.{protocols_suit, set_suits}
 use Rattle.policy_suiting.specs.Suiting.{protocol_list, Exactly, line_protocols, Suits}
 use Rattle.sa_proposals.proofs.Known.{known_of}
@@ -35,13 +35,13 @@ use Rattle.policy_cause.specs.declared.PairCause.TheVariants as pairs
 use Rattle.policy_truth.specs.Truth.{Says}
 use Rattle.policy_truth.proofs.TruthLaws.{cause_says}
 use Rattle.policy_choice.specs.Choice.{line_count, sa_from, message_choice, book_choice, choice, choice_answer}
-use Rattle.policy_choice.specs.declared.Choice.TheVariants as choices
+use Rattle.policy_choice.specs.Choice as choices
 use Rattle.policy_choice.proofs.ChoiceLaws.{sa_reads}
 use Rattle.policy_why.specs.Why.{message_offer, book_offer, offered, is_place, cause_in, offer_cause, why}
-use Rattle.policy_why.specs.declared.Offer.TheVariants as offers
+use Rattle.policy_why.specs.Offer as offers
 use Rattle.policy_why.specs.declared.Places.{Places}
-use Rattle.policy_why.specs.declared.Why.{Why}
-use Rattle.policy_why.specs.declared.Why.TheVariants.{Refused, NoSuchPlace, Protocols, Transform}
+use Rattle.policy_why.specs.Why.{Why}
+use Rattle.policy_why.specs.Why.{Refused, NoSuchPlace, Protocols, Transform}
 use Rattle.promises.specs.Choice.{Offer, chosen-best, fourteen_means_none, none_means_fourteen}
 
 -- ---- "For a readable offer and a book"
@@ -168,7 +168,7 @@ module _ (book m : Bytes) (o : Offer book m) where
       (transform-lawful o.exchange (proposal_at at) item at.transform t.a_transform)
 
   -- "Each printed cause must be true of that transform"
-  pub cause_true : (at : Places) (cause : Cause) → why book m at ≡ Transform cause →
+  pub cause_true : (at : Places) (cause : Option Cause) → why book m at ≡ Transform cause →
       Says o.exchange at.line book (protocol (proposal_at at)) (transform_at at) cause
   cause_true at cause h = go (said at) h
     where
@@ -181,21 +181,21 @@ module _ (book m : Bytes) (o : Offer book m) where
 
   -- ---- pairs of a set and a line
 
-  abbrev pair_at : (k i : ℕ) → PairCause
+  abbrev pair_at : (k i : ℕ) → Option PairCause
   pair_at k i = pair_cause o.exchange i book (set k body)
 
   -- "a pair shows "suits" exactly when document 01 as amended says so"
   module _ (k i : ℕ) (a_set : k < set_count body) where
-    pub pair-suits : pair_at k i ≡ pairs.Suits → Suits o.exchange i book (set k body)
+    pub pair-suits : pair_at k i ≡ None → Suits o.exchange i book (set k body)
     unfolding pair_cause
     pair-suits h =
         by_test (set_suits o.exchange i book (set k body))
         (λ e. suits-says o.exchange i book (set k body) (set-lawful o.exchange body body_reads k a_set).lawful e)
         (λ e. by_test (protocols_suit o.exchange i book (set k body))
-        (λ f. let other : pairs.Transforms ≡ pairs.Suits = sym (rw (e, f)) ∙ h in never (cc))
-        (λ f. let other : pairs.Protocols ≡ pairs.Suits = sym (rw (e, f)) ∙ h in never (cc)))
+        (λ f. let other : Some pairs.Transforms ≡ None = sym (rw (e, f)) ∙ h in never (cc))
+        (λ f. let other : Some pairs.Protocols ≡ None = sym (rw (e, f)) ∙ h in never (cc)))
 
-    pub suits-pair : Suits o.exchange i book (set k body) → pair_at k i ≡ pairs.Suits
+    pub suits-pair : Suits o.exchange i book (set k body) → pair_at k i ≡ None
     unfolding pair_cause
     suits-pair u = rw (says-suits o.exchange i book (set k body) (set-lawful o.exchange body body_reads k a_set).lawful u)
 
@@ -205,9 +205,9 @@ module _ (book m : Bytes) (o : Offer book m) where
     pub i : ℕ
     pub a_set : k < set_count body
     pub a_line : i < line_count o.exchange book
-    pub shows : pair_at k i ≡ pairs.Suits
-    pub no_set_before : (j l : ℕ) → j < k → l < line_count o.exchange book → pair_at j l ≡ pairs.Suits → ⊥
-    pub no_line_before : (l : ℕ) → l < i → pair_at k l ≡ pairs.Suits → ⊥
+    pub shows : pair_at k i ≡ None
+    pub no_set_before : (j l : ℕ) → j < k → l < line_count o.exchange book → pair_at j l ≡ None → ⊥
+    pub no_line_before : (l : ℕ) → l < i → pair_at k l ≡ None → ⊥
     pub transforms : List ℕ
     pub answered : choice_answer (choice book m) ≡ done ((proposal_number (proposal 0 (set k body))).0 ∷ (i + 1) ∷ transforms)
 
@@ -227,8 +227,8 @@ module _ (book m : Bytes) (o : Offer book m) where
       }
 
   -- and 14 exactly where none does
-  pub fourteen_no_pair : choice book m ≡ choices.Refused 14 → (k i : ℕ) → k < set_count body → i < line_count o.exchange book → pair_at k i ≡ pairs.Suits → ⊥
+  pub fourteen_no_pair : choice book m ≡ choices.Refused 14 → (k i : ℕ) → k < set_count body → i < line_count o.exchange book → pair_at k i ≡ None → ⊥
   fourteen_no_pair e k i a b h = fourteen_means_none book m o e k i a b (pair-suits k i a h)
 
-  pub no_pair_fourteen : ((k i : ℕ) → k < set_count body → i < line_count o.exchange book → pair_at k i ≡ pairs.Suits → ⊥) → choice book m ≡ choices.Refused 14
+  pub no_pair_fourteen : ((k i : ℕ) → k < set_count body → i < line_count o.exchange book → pair_at k i ≡ None → ⊥) → choice book m ≡ choices.Refused 14
   no_pair_fourteen f = none_means_fourteen book m o (λ k i a b u. f k i a b (suits-pair k i a u))

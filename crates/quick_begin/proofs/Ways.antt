@@ -1,12 +1,17 @@
 -- A law for each way out of the functions of begin.
 use Prim.Native.Nat.{ℕ, ◌≤◌}
-use mathlib.Core.Path.{◌≡◌, sym, ap, ◌∙◌}
+use mathlib.Core.Path.{◌≡◌, refl, sym, ap, ◌∙◌}
 use mathlib.Core.List.{List}
 use mathlib.Core.Bool.{Bool, true, false, not, ◌||◌, ◌&&◌}
 use native.Mathlib.Omega.{arith}
 use lib.ListN.{length, get_or, take, drop, length-drop}
 use lib.Dec.{eqb, leb}
 use borrow.Author.Tests.{eq-eqb, ne_eqb, eqb-true, not-false}
+use Rattle.std.specs.Prelude.{Option, None, Some, Result, Ok, Err}
+use Rattle.std.specs.Result.{is_ok}
+use Rattle.refusal.specs.declared.Refusal.{Refusal}
+use Rattle.refusal.specs.Numbers.{number, coded}
+use Rattle.refusal.proofs.Laws.{number-not_zero}
 use Rattle.wire_write.specs.Put.{put}
 use Rattle.wire_read.specs.Tests.{if◌then◌otherwise◌}
 use Rattle.wire_write.proofs.Laws.{put-size, put-made}
@@ -19,17 +24,21 @@ use Rattle.quick_step.specs.Steps.{small, after_step, stepped, with_progress}
 use Rattle.quick_begin.specs.Begin.{identities_wrong, begin_code, begun}
 use Rattle.quick_end.specs.declared.State.TheVariants.{Sent}
 use Rattle.quick_write.specs.declared.Proposals.TheVariants.{Offer}
-use Rattle.quick_write.specs.declared.Written.{Written}
-use Rattle.quick_write.specs.declared.Written.TheVariants.{Size, TooLong}
 use Rattle.quick_end.specs.declared.Own.{Own}
 use Rattle.quick_end.specs.declared.Progress.{Progress}
 use Rattle.quick_end.specs.declared.End.{End}
-use Rattle.quick_step.specs.declared.StepAnswer.TheVariants.{Send, Refused}
+use Rattle.quick_step.specs.Steps.{Send, Refused}
 
-pub wrong_identities : (first second : List ℕ) (a b : ℕ) → a ≡ identity_code 32 first → b ≡ identity_code 32 second →
-    not (eqb (length first) 0 && eqb (length second) 0 || eqb a 0 && eqb b 0) ≡ identities_wrong first second
+-- a check lets pass where its number is 0
+ok-coded : (answer : Result Unit Refusal) → is_ok answer ≡ eqb (coded answer) 0
+ok-coded (Ok passed) = refl
+ok-coded (Err refusal) = sym (number-not_zero refusal)
+
+pub wrong_identities : (first second : List ℕ) (x y : Result Unit Refusal) (a b : Bool) → coded x ≡ identity_code 32 first → a ≡ is_ok x →
+    coded y ≡ identity_code 32 second → b ≡ is_ok y →
+    not (eqb (length first) 0 && eqb (length second) 0 || a && b) ≡ identities_wrong first second
 unfolding identities_wrong
-wrong_identities first second a b ea eb = rw (← ea, ← eb)
+wrong_identities first second x y a b ex ea ey eb = rw (ea, eb, ok-coded x, ok-coded y, ex, ey)
 
 -- ---- an identity is short
 
@@ -102,11 +111,11 @@ module _ (e : End) (id : ℕ) (first second : List ℕ) (tight : Bool) where
             unfolding begin_code book_of
             begin_passed h = rw (roomy, ← eu, on, ← eb, ← er, may, ne_eqb id 0 named, ← ew, right, ← ek, ← en, ne_eqb n 0 h)
 
-  module _ (code : ℕ) (ec : code ≡ begin_code e id first second tight) (h : code ≡ 0) where
+  module _ (passes : 0 ≡ begin_code e id first second tight) where
     few : (length first ≤ 36) × (length second ≤ 36)
     unfolding begin_code
     few =
-        let roomy = passed tight 8192 _ (λ z. omega arith) (sym ec ∙ h) in
+        let roomy = passed tight 8192 _ (λ z. omega arith) (sym passes) in
         let on = passed (is_given_up e.progress.state) 8196 _ (λ z. omega arith) roomy.1 in
         let may = passed (not (is_initiator e.own.role && is_idle e.progress.state)) 8195 _ (λ z. omega arith) on.1 in
         let named = passed (eqb id 0) 9 _ (λ z. omega arith) may.1 in
@@ -118,36 +127,36 @@ module _ (e : End) (id : ℕ) (first second : List ℕ) (tight : Bool) where
     pub few-second : length second ≤ 36
     few-second = few.1
 
-module _ (e : End) (id : ℕ) (first second sent got output : List ℕ) (tight : Bool) (et : tight ≡ small sent got output) (code : ℕ)
-    (ec : code ≡ begin_code e id first second tight) where
-  pub begin-refused : (code ≡ 0 → ⊥) → begun e id first second sent got output ≡ after_step (stepped e (Refused code)) sent got output
+module _ (e : End) (id : ℕ) (first second sent got output : List ℕ) (tight : Bool) (et : tight ≡ small sent got output) where
+  pub begin-refused : (refusal : Refusal) → number refusal ≡ begin_code e id first second tight →
+      begun e id first second sent got output ≡ after_step (stepped e (Refused (number refusal))) sent got output
   unfolding begun
-  begin-refused h = rw (← et, ← ec, ne_eqb code 0 h)
+  begin-refused refusal ec = rw (← et, ← ec, number-not_zero refusal)
 
   -- the record of an end that has sent message 1
   abbrev sent-at : (size : ℕ) → Progress
   sent-at size = record { state = Sent; sends = 1; id = id; sentsize = size; gotsize = e.progress.gotsize; agreed = e.progress.agreed }
 
-  pub begin-sent : code ≡ 0 → (b c : List ℕ) (n k : ℕ) →
+  pub begin-sent : 0 ≡ begin_code e id first second tight → (b c : List ℕ) (n k : ℕ) →
       put sent 0 (message_one e.own id first second) ≡ (n, b) → put output 0 (message_one e.own id first second) ≡ (k, c) →
       begun e id first second sent got output ≡ after_step (stepped (with_progress (sent-at k) e) (Send k)) b got c
   unfolding begun
-  begin-sent h b c n k eb ek =
+  begin-sent passes b c n k eb ek =
       let size = put-size output c 0 k _ ek in
       let in_sent = put-made sent b 0 n _ eb in
       let in_output = put-made output c 0 k _ ek in
-      rw (← et, ← ec, eq-eqb code 0 h, size, in_sent, in_output)
+      rw (← et, ← passes, size, in_sent, in_output)
 
 -- ---- message 1 is written
 
-module _ (buffer b none first second : List ℕ) (own : Own) (id : ℕ) (w : Written) (en : none ≡ take 0 first) (f : length first ≤ 36) (g : length second ≤ 36)
+module _ (buffer b none first second : List ℕ) (own : Own) (id : ℕ) (w : Option ℕ) (en : none ≡ take 0 first) (f : length first ≤ 36) (g : length second ≤ 36)
     (e : longer_into buffer own id Offer none first second ≡ (w, b)) where
   empty : length none ≤ 4096
   empty = omega (arith, ap length en)
 
-  pub one_written : (n : ℕ) → w ≡ Size n → put buffer 0 (message_one own id first second) ≡ (n, b)
+  pub one_written : (n : ℕ) → w ≡ Some n → put buffer 0 (message_one own id first second) ≡ (n, b)
   unfolding message_one proposals_of
   one_written n h = longer-written buffer own id Offer none first second empty (omega arith) (omega arith) w b e n h
 
-  pub one_never : w ≡ TooLong → put buffer 0 (message_one own id first second) ≡ (0, b)
+  pub one_never : w ≡ None → put buffer 0 (message_one own id first second) ≡ (0, b)
   one_never h = longer_never buffer own id Offer none first second empty (omega arith) (omega arith) w b e h

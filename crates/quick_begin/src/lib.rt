@@ -4,49 +4,49 @@
 ghost use Rattle.std.specs.Prelude.{◌≡◌, ◌≤◌, length};
 ghost use Rattle.wire_write.specs.Put.{put};
 ghost use Rattle.quick_write.specs.Messages.{message_one};
-ghost use Rattle.quick_step.specs.Steps.{after_step};
+ghost use Rattle.refusal.specs.Numbers.{coded};
+ghost use Rattle.quick_step.specs.Steps.{after_step, stepped_told};
 ghost use Rattle.quick_begin.specs.Begin.{identities_wrong, begin_code, begun};
 
 use identity::identity_code;
 use quick_end::{End, Own, Progress, State, is_given_up, is_idle, is_initiator};
 use quick_step::{StepAnswer, Stepped, small};
-use quick_write::{Proposals, Written, lines, put_longer};
+use quick_write::{Proposals, lines, put_longer};
+use refusal::Refusal;
 use wire_read::front;
 
 fn identities_wrong(first: &[u8], second: &[u8]) -> bool
     ensures { result ≡ identities_wrong first.now second.now }
 {
     let none = (first.len() == 0) & (second.len() == 0);
-    let both = (identity_code(32, first) == 0) & (identity_code(32, second) == 0);
+    let both = identity_code(32, first).is_ok() & identity_code(32, second).is_ok();
     !(none | both)
 }
 
-fn begin_code(end: End, id: u32, first: &[u8], second: &[u8], tight: bool) -> u16
-    ensures { result ≡ begin_code end id first.now second.now tight }
+fn begin_code(end: End, id: u32, first: &[u8], second: &[u8], tight: bool) -> Result<(), Refusal>
+    ensures { coded result ≡ begin_code end id first.now second.now tight }
 {
     let own = end.own;
-    let role = own.role;
-    let progress = end.progress;
-    let state = progress.state;
+    let state = end.progress.state;
     if tight {
-        return 8192;
+        return Err(Refusal::BufferTooSmall);
     }
     if is_given_up(state) {
-        return 8196;
+        return Err(Refusal::GivenUp);
     }
-    if !(is_initiator(role) & is_idle(state)) {
-        return 8195;
+    if !(is_initiator(own.role) & is_idle(state)) {
+        return Err(Refusal::CallUnexpected);
     }
     if id == 0 {
-        return 9;
+        return Err(Refusal::InvalidMessageId);
     }
     if identities_wrong(first, second) {
-        return 18;
+        return Err(Refusal::InvalidIdInformation);
     }
     if lines(front(&own.book, own.booksize as usize)) == 0 {
-        return 14;
+        return Err(Refusal::NoProposalChosen);
     }
-    0
+    Ok(())
 }
 
 // Writes message 1; says how long it is.
@@ -57,7 +57,7 @@ fn put_one(buffer: &mut [u8], own: Own, id: u32, first: &[u8], second: &[u8]) ->
     let none = front(first, 0);
     let written = put_longer(buffer, own, id, Proposals::Offer, none, first, second);
     // Never: no part is too long.
-    let Written::Size(size) = written else {
+    let Some(size) = written else {
         return 0;
     };
     size
@@ -74,32 +74,25 @@ pub fn begin(
     output: &mut [u8],
 ) -> Stepped
     ensures { begun end id first.now second.now sent.old got.now output.old ≡
-        after_step result sent.new got.now output.new }
+        after_step (stepped_told result) sent.new got.now output.new }
 {
-    let code = begin_code(end, id, first, second, small(sent, got, output));
-    if code != 0 {
+    if let Err(refusal) = begin_code(end, id, first, second, small(sent, got, output)) {
         return Stepped {
             end,
-            answer: StepAnswer::Refused(code),
+            answer: StepAnswer::Refused(refusal),
         };
     }
-    let own = end.own;
-    let progress = end.progress;
-    let agreed = progress.agreed;
-    put_one(sent, own, id, first, second);
-    let size = put_one(output, own, id, first, second);
+    put_one(sent, end.own, id, first, second);
+    let size = put_one(output, end.own, id, first, second);
+    let progress = Progress {
+        state: State::Sent,
+        sends: 1,
+        id,
+        sentsize: size,
+        ..end.progress
+    };
     Stepped {
-        end: End {
-            own,
-            progress: Progress {
-                state: State::Sent,
-                sends: 1,
-                id,
-                sentsize: size,
-                gotsize: progress.gotsize,
-                agreed,
-            },
-        },
+        end: End { progress, ..end },
         answer: StepAnswer::Send(size),
     }
 }

@@ -10,8 +10,8 @@ use borrow.Author.Tests.{ltb-false}
 use Rattle.wire_read.proofs.Tests.{passed}
 use Rattle.message_header.specs.Header.{flags_of, message_id_of}
 use Rattle.message_chain.specs.Message.{message}
-use Rattle.message_chain.specs.declared.Message.{Message}
-use Rattle.message_chain.specs.declared.Message.TheVariants.{Refused, Read}
+use Rattle.message_chain.specs.Message.{Message}
+use Rattle.message_chain.specs.Message.{Refused, Read}
 use Rattle.message_chain.proofs.Laws.{refusal_some}
 use Rattle.quick_end.specs.Fresh.{is_idle, is_initiator}
 use Rattle.quick_end.specs.declared.State.{State}

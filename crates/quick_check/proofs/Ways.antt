@@ -7,8 +7,8 @@ use lib.ListN.{length, get_or}
 use lib.Dec.{eqb}
 use borrow.Author.Tests.{eq-eqb, ne_eqb, lt-ltb, le-ltb}
 use Rattle.wire_read.specs.Wire.{number_at}
-use Rattle.message_chain.specs.declared.Message.{Message}
-use Rattle.message_chain.specs.declared.Message.TheVariants.{Refused, Read}
+use Rattle.message_chain.specs.Message.{Message}
+use Rattle.message_chain.specs.Message.{Refused, Read}
 use Rattle.quick_end.specs.Fresh.{is_idle, is_initiator}
 use Rattle.quick_shape.specs.Shapes.{shape}
 use Rattle.quick_check.specs.Checks.{cookies_not_own, quick_code, read_code}
@@ -59,13 +59,3 @@ module _ (own : Own) (state : State) (id exchange count : ℕ) (m : List ℕ) wh
               quick_passed h =
                   rw (eq-eqb exchange 32 quick, ← ef, eq-eqb flags 1 flagged, ← er, ← ei, answers, ← ew, known, ← et, same, ← es)
                   (rw (ne_eqb found 0 shaped, le-ltb 2048 (length m) h))
-
-module _ (own : Own) (state : State) (id : ℕ) (m : List ℕ) (read : Message) where
-  pub read-refused : (number : ℕ) → read ≡ Refused number → number ≡ read_code own state id m read
-  unfolding read_code
-  read-refused number h = rw h
-
-  pub read_checked : (exchange count : ℕ) → read ≡ Read exchange count → (r : ℕ) → r ≡ quick_code own state id exchange count m →
-      r ≡ read_code own state id m read
-  unfolding read_code
-  read_checked exchange count h r e = rw h e

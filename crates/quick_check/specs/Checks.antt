@@ -3,8 +3,8 @@ use Rattle.std.specs.Prelude.{ℕ, Bool, not, ◌&&◌, length, ltb, eqb}
 use Rattle.wire_read.specs.Wire.{Bytes, Code}
 use Rattle.wire_read.specs.Tests.{if◌then◌otherwise◌}
 use Rattle.message_header.specs.Header.{flags_of, icookie_of, rcookie_of, message_id_of}
-use Rattle.message_chain.specs.declared.Message.{Message}
-use Rattle.message_chain.specs.declared.Message.TheVariants.{Refused, Read}
+use Rattle.message_chain.specs.Message.{Message}
+use Rattle.message_chain.specs.Message.{Refused, Read}
 use Rattle.quick_end.specs.Fresh.{is_idle, is_initiator}
 use Rattle.quick_shape.specs.Shapes.{shape}
 use Rattle.quick_end.specs.declared.State.{State}

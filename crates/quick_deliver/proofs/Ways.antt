@@ -2,17 +2,22 @@
 use Prim.Native.Nat.{ℕ, min, ◌≤◌}
 use mathlib.Core.Path.{◌≡◌, refl, sym, ap, ◌∙◌}
 use mathlib.Core.List.{List}
+use mathlib.Core.Logic.{◌⊎◌, inl, inr}
 use mathlib.Core.Bool.{Bool, true, false, not, ◌||◌}
 use native.Mathlib.Omega.{arith}
 use lib.ListN.{length, take}
 use lib.Dec.{eqb}
 use borrow.Author.Tests.{eq-eqb, ne_eqb}
+use Rattle.std.specs.Prelude.{Option, None, Some}
+use Rattle.refusal.specs.declared.Refusal.{Refusal}
+use Rattle.refusal.specs.Numbers.{number}
+use Rattle.refusal.proofs.Laws.{number-not_zero, number-refuses}
 use Rattle.wire_write.specs.Put.{paste, put}
 use Rattle.wire_write.proofs.Laws.{put-size, put-made}
 use Rattle.wire_read.proofs.Tests.{by_test}
 use Rattle.message_header.specs.Header.{message_id_of}
 use Rattle.message_chain.specs.Message.{message}
-use Rattle.message_chain.specs.declared.Message.{Message}
+use Rattle.message_chain.specs.Message.{Message}
 use Rattle.sa_sets.specs.Sets.{set_numbered}
 use Rattle.sa_sets.proofs.Laws.{set-within}
 use Rattle.sa_fields.specs.declared.ProposalNumber.{ProposalNumber}
@@ -20,12 +25,10 @@ use Rattle.policy_choice.specs.Choice.{body_at, choose_from}
 use Rattle.policy_choice.proofs.ChoiceLaws.{body-within}
 use Rattle.policy_lines.specs.declared.LineNumber.{LineNumber}
 use Rattle.policy_choice.specs.declared.Transforms.{Transforms}
-use Rattle.policy_choice.specs.declared.Choice.{Choice}
-use Rattle.policy_choice.specs.declared.Choice.TheVariants as choices
+use Rattle.policy_choice.specs.Choice.{Choice}
+use Rattle.policy_choice.specs.Choice as choices
 use Rattle.quick_write.specs.Messages.{book_of, longer_into, message_two, message_three}
 use Rattle.quick_write.proofs.Laws.{longer-written, longer_never}
-use Rattle.quick_write.specs.declared.Written.{Written}
-use Rattle.quick_write.specs.declared.Written.TheVariants.{Size, TooLong}
 use Rattle.quick_end.specs.Fresh.{is_initiator, is_given_up}
 use Rattle.quick_shape.specs.Shapes.{is_longer, alike, shape_of}
 use Rattle.quick_check.specs.Checks.{read_code}
@@ -41,8 +44,8 @@ use Rattle.quick_end.specs.declared.Agreed.{Agreed}
 use Rattle.quick_end.specs.declared.Progress.{Progress}
 use Rattle.quick_write.specs.declared.Proposals.TheVariants.{Reply}
 use Rattle.quick_end.specs.declared.End.{End}
-use Rattle.quick_step.specs.declared.StepAnswer.TheVariants.{Send, Nothing, Refused}
-use Rattle.quick_step.specs.declared.Stepped.{Stepped}
+use Rattle.quick_step.specs.Steps.{Send, Nothing, Refused}
+use Rattle.quick_step.specs.Steps.{Stepped}
 
 -- ---- parts of a message that is taken fit
 
@@ -122,15 +125,15 @@ pub one_agreed : (own : Own) (number : ProposalNumber) (transforms : Transforms)
     record { set = number; transforms = transforms; initiator = initiator; responder = responder } ≡ agreed_one own number transforms s
 one_agreed own number transforms s initiator responder ei er = rw (← ei, ← er)
 
-module _ (l b m s one two : List ℕ) (own : Own) (transforms : Transforms) (id : ℕ) (w : Written) (fs : length s ≤ 2048) (fm : length m ≤ 2048)
+module _ (l b m s one two : List ℕ) (own : Own) (transforms : Transforms) (id : ℕ) (w : Option ℕ) (fs : length s ≤ 2048) (fm : length m ≤ 2048)
     (e1 : one ≡ identity_at 3 m) (e2 : two ≡ identity_at 4 m) (e : longer_into l own id (Reply transforms) s one two ≡ (w, b)) where
-  pub two-written : id ≡ message_id_of m → (n : ℕ) → w ≡ Size n → put l 0 (message_two_to m own transforms s) ≡ (n, b)
+  pub two-written : id ≡ message_id_of m → (n : ℕ) → w ≡ Some n → put l 0 (message_two_to m own transforms s) ≡ (n, b)
   unfolding message_two
   two-written ei n h =
       rw (← ei, ← e1, ← e2)
       (longer-written l own id (Reply transforms) s one two (omega arith) (identity_within m fm 3 one e1) (identity_within m fm 4 two e2) w b e n h)
 
-  pub two_never : w ≡ TooLong → put l 0 (message_two_to m own transforms s) ≡ (0, b)
+  pub two_never : w ≡ None → put l 0 (message_two_to m own transforms s) ≡ (0, b)
   two_never h = longer_never l own id (Reply transforms) s one two (omega arith) (identity_within m fm 3 one e1) (identity_within m fm 4 two e2) w b e h
 
 module _ (e : End) (m sent got output : List ℕ) where
@@ -170,62 +173,48 @@ module _ (e : End) (m sent got output : List ℕ) where
         rw (← ey, ← es, size, first, second, ei, ea, ← eg)
 
   module _ (state : State) (r : Stepped) (er : r ≡ stepped e (Refused 8195)) where
-    pub initiator-idle : state ≡ Idle → at_initiator e m sent got output state ≡ after_step r sent got output
+    pub initiator-other : (state ≡ Idle) ⊎ ((state ≡ Half) ⊎ (state ≡ GivenUp)) → at_initiator e m sent got output state ≡ after_step r sent got output
     unfolding at_initiator
-    initiator-idle h = rw (h, er)
+    initiator-other (inl h) = rw (h, er)
+    initiator-other (inr (inl h)) = rw (h, er)
+    initiator-other (inr (inr h)) = rw (h, er)
 
-    pub initiator_half : state ≡ Half → at_initiator e m sent got output state ≡ after_step r sent got output
-    unfolding at_initiator
-    initiator_half h = rw (h, er)
-
-    pub initiator-up : state ≡ GivenUp → at_initiator e m sent got output state ≡ after_step r sent got output
-    unfolding at_initiator
-    initiator-up h = rw (h, er)
-
-    pub responder-sent : state ≡ Sent → at_responder e m sent got output state ≡ after_step r sent got output
+    pub responder-other : (state ≡ Sent) ⊎ (state ≡ GivenUp) → at_responder e m sent got output state ≡ after_step r sent got output
     unfolding at_responder
-    responder-sent h = rw (h, er)
-
-    pub responder-up : state ≡ GivenUp → at_responder e m sent got output state ≡ after_step r sent got output
-    unfolding at_responder
-    responder-up h = rw (h, er)
+    responder-other (inl h) = rw (h, er)
+    responder-other (inr h) = rw (h, er)
 
   module _ (found : ℕ) (es : found ≡ shape_of m) (long : Bool) (el : long ≡ is_longer found) where
     pub two-other : not long ≡ true → (r : Stepped) → r ≡ stepped e (Refused 8195) → at_initiator e m sent got output Sent ≡ after_step r sent got output
     unfolding at_initiator
     two-other h r er = rw (← es, ← el, h, er)
 
-    module _ (longer : not long ≡ false) (k : List ℕ) (code : ℕ) (ek : k ≡ kept e.progress.sentsize sent) (ec : code ≡ taken_code found k m)
-        (r : Stepped) where
-      pub two-refused : (code ≡ 0 → ⊥) → r ≡ stepped e (Refused code) → at_initiator e m sent got output Sent ≡ after_step r sent got output
+    module _ (longer : not long ≡ false) (k : List ℕ) (ek : k ≡ kept e.progress.sentsize sent) (r : Stepped) where
+      pub two-refused : (refusal : Refusal) → number refusal ≡ taken_code found k m → r ≡ stepped e (Refused (number refusal)) →
+          at_initiator e m sent got output Sent ≡ after_step r sent got output
       unfolding at_initiator
-      two-refused h er = rw (← es, ← el, longer, ← ek, ← ec, ne_eqb code 0 h, er)
+      two-refused refusal ec er = rw (← es, ← el, longer, ← ek, ← ec, number-not_zero refusal, er)
 
-      pub two-opened : code ≡ 0 → (a b c : List ℕ) → opened e m sent got output ≡ after_step r a b c → at_initiator e m sent got output Sent ≡ after_step r a b c
+      pub two-opened : 0 ≡ taken_code found k m → (a b c : List ℕ) → opened e m sent got output ≡ after_step r a b c → at_initiator e m sent got output Sent ≡ after_step r a b c
       unfolding at_initiator
-      two-opened h a b c eo = rw (← es, ← el, longer, ← ek, ← ec, eq-eqb code 0 h) eo
+      two-opened taken a b c eo = rw (← es, ← el, longer, ← ek, ← taken) eo
 
     pub one-other : not long ≡ true → (r : Stepped) → r ≡ stepped e (Refused 8195) → at_responder e m sent got output Idle ≡ after_step r sent got output
     unfolding at_responder
     one-other h r er = rw (← es, ← el, h, er)
 
-    pub one-answered : not long ≡ false → (book body : List ℕ) (c : Choice) → book ≡ take e.own.booksize e.own.book → body ≡ body_at 1 m →
-        c ≡ choose_from 32 book body →
-        (r : Stepped) (x y z : List ℕ) → after_choice e m sent got output c ≡ after_step r x y z → at_responder e m sent got output Idle ≡ after_step r x y z
-    unfolding at_responder book_of
-    one-answered h book body c ek eb ec r x y z ea = rw (← es, ← el, h, ← ek, ← eb, ← ec) ea
+    module _ (longer : not long ≡ false) (book body : List ℕ) (ek : book ≡ take e.own.booksize e.own.book) (eb : body ≡ body_at 1 m) (r : Stepped) where
+      pub one-refused : (refusal : Refusal) → choices.Refused (number refusal) ≡ choose_from 32 book body → r ≡ stepped e (Refused (number refusal)) →
+          at_responder e m sent got output Idle ≡ after_step r sent got output
+      unfolding at_responder after_choice book_of
+      one-refused refusal ec er = rw (← es, ← el, longer, ← ek, ← eb, ← ec, er)
 
-  module _ (c : Choice) (r : Stepped) where
-    pub choice-refused : (number : ℕ) → c ≡ choices.Refused number → r ≡ stepped e (Refused number) →
-        after_choice e m sent got output c ≡ after_step r sent got output
-    unfolding after_choice
-    choice-refused number h er = rw (h, er)
-
-    pub choice-made : (number : ProposalNumber) (line : LineNumber) (transforms : Transforms) → c ≡ choices.Chosen number line transforms → (x y z : List ℕ) →
-        halfway e m sent got output number transforms (set_numbered number (body_at 1 m)) ≡ after_step r x y z →
-        after_choice e m sent got output c ≡ after_step r x y z
-    unfolding after_choice
-    choice-made number line transforms h x y z eh = rw h eh
+      pub one-answered : (set : ProposalNumber) (line : LineNumber) (transforms : Transforms) →
+          choices.Chosen set line transforms ≡ choose_from 32 book body → (x y z : List ℕ) →
+          halfway e m sent got output set transforms (set_numbered set (body_at 1 m)) ≡ after_step r x y z →
+          at_responder e m sent got output Idle ≡ after_step r x y z
+      unfolding at_responder after_choice book_of
+      one-answered set line transforms ec x y z eh = rw (← es, ← el, longer, ← ek, ← eb, ← ec) eh
 
   module _ (state : State) (r : Stepped) (c : List ℕ) where
     pub responder_half : state ≡ Half → at_responder e m sent got output Half ≡ after_step r sent got c →
@@ -276,31 +265,31 @@ module _ (e : End) (m sent got output : List ℕ) where
         unfolding at_responder
         responder_open h r er = rw (opens, ← ek, ← es, ← ef, h, er)
 
-module _ (e : End) (holds : Bool) (m sent got output : List ℕ) (tight : Bool) (et : tight ≡ small sent got output)
-    (before : ℕ) (eb : before ≡ early_code tight holds (is_given_up e.progress.state) 0) (r : Stepped) where
-  refused-by : (code : ℕ) → code ≡ delivery_code e holds m tight → (code ≡ 0 → ⊥) → r ≡ stepped e (Refused code) →
+module _ (e : End) (holds : Bool) (m sent got output : List ℕ) (tight : Bool) (et : tight ≡ small sent got output) (r : Stepped) where
+  refused-by : (refusal : Refusal) → number refusal ≡ delivery_code e holds m tight → r ≡ stepped e (Refused (number refusal)) →
       delivered e holds m sent got output ≡ after_step r sent got output
   unfolding delivered
-  refused-by code ec h er = rw (← et, ← ec, ne_eqb code 0 h, er)
+  refused-by refusal ec er = rw (← et, ← ec, number-not_zero refusal, er)
 
-  pub deliver_early : (before ≡ 0 → ⊥) → r ≡ stepped e (Refused before) → delivered e holds m sent got output ≡ after_step r sent got output
-  deliver_early h = refused-by before (delivery_early e holds m tight before eb h) h
+  pub deliver_early : (refusal : Refusal) → number refusal ≡ early_code tight holds (is_given_up e.progress.state) 0 →
+      r ≡ stepped e (Refused (number refusal)) → delivered e holds m sent got output ≡ after_step r sent got output
+  deliver_early refusal eb = refused-by refusal (delivery_early e holds m tight (number refusal) eb (number-refuses refusal))
 
-  module _ (goes : before ≡ 0) (read : Message) (em : read ≡ message m) (code : ℕ)
-      (ec : code ≡ read_code e.own e.progress.state e.progress.id m read) where
-    whole : code ≡ delivery_code e holds m tight
-    whole = delivery-read e holds m tight code (sym eb ∙ goes) read em ec
+  module _ (goes : 0 ≡ early_code tight holds (is_given_up e.progress.state) 0) (read : Message) (em : read ≡ message m) where
+    whole : (code : ℕ) → code ≡ read_code e.own e.progress.state e.progress.id m read → code ≡ delivery_code e holds m tight
+    whole code ec = delivery-read e holds m tight code (sym goes) read em ec
 
-    pub deliver-refused : (code ≡ 0 → ⊥) → r ≡ stepped e (Refused code) → delivered e holds m sent got output ≡ after_step r sent got output
-    deliver-refused = refused-by code whole
+    pub deliver-refused : (refusal : Refusal) → number refusal ≡ read_code e.own e.progress.state e.progress.id m read →
+        r ≡ stepped e (Refused (number refusal)) → delivered e holds m sent got output ≡ after_step r sent got output
+    deliver-refused refusal ec = refused-by refusal (whole (number refusal) ec)
 
-    module _ (passes : code ≡ 0) (begins : Bool) (ei : begins ≡ is_initiator e.own.role) (x y z : List ℕ) where
+    module _ (passes : 0 ≡ read_code e.own e.progress.state e.progress.id m read) (begins : Bool) (ei : begins ≡ is_initiator e.own.role) (x y z : List ℕ) where
       pub deliver-initiator : begins ≡ true → at_initiator e m sent got output e.progress.state ≡ after_step r x y z →
           delivered e holds m sent got output ≡ after_step r x y z
       unfolding delivered
-      deliver-initiator h ea = rw (← et, ← whole, eq-eqb code 0 passes, ← ei, h) ea
+      deliver-initiator h ea = rw (← et, ← whole 0 passes, ← ei, h) ea
 
       pub deliver-responder : begins ≡ false → at_responder e m sent got output e.progress.state ≡ after_step r x y z →
           delivered e holds m sent got output ≡ after_step r x y z
       unfolding delivered
-      deliver-responder h ea = rw (← et, ← whole, eq-eqb code 0 passes, ← ei, h) ea
+      deliver-responder h ea = rw (← et, ← whole 0 passes, ← ei, h) ea

@@ -9,8 +9,8 @@ use Rattle.sa_sets.specs.Sets.{set_numbered}
 use Rattle.sa_fields.specs.declared.ProposalNumber.{ProposalNumber}
 use Rattle.policy_choice.specs.Choice.{body_at, choose_from}
 use Rattle.policy_choice.specs.declared.Transforms.{Transforms}
-use Rattle.policy_choice.specs.declared.Choice.{Choice}
-use Rattle.policy_choice.specs.declared.Choice.TheVariants as choices
+use Rattle.policy_choice.specs.Choice.{Choice}
+use Rattle.policy_choice.specs.Choice as choices
 use Rattle.quick_write.specs.Messages.{book_of, message_two, message_three}
 use Rattle.quick_end.specs.Fresh.{is_initiator, is_given_up}
 use Rattle.quick_shape.specs.Shapes.{is_longer, alike, shape_of}

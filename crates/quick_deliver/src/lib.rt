@@ -3,14 +3,15 @@
 
 ghost use Rattle.std.specs.Prelude.{◌≡◌, ◌≤◌, length};
 ghost use Rattle.wire_write.specs.Put.{put};
-ghost use Rattle.quick_step.specs.declared.StepAnswer.TheVariants.{Refused};
+ghost use Rattle.refusal.specs.Numbers.{number, coded};
+ghost use Rattle.quick_step.specs.Steps.{Refused};
 ghost use Rattle.quick_end.specs.declared.State.TheVariants.{Idle, Sent, Half};
 ghost use Rattle.sa_sets.specs.Sets.{set_numbered};
 ghost use Rattle.policy_choice.specs.Choice.{body_at};
 ghost use Rattle.quick_shape.specs.Shapes.{shape_of};
 ghost use Rattle.quick_end.specs.Fresh.{is_given_up};
-ghost use Rattle.quick_step.specs.Steps.{after_step, stepped, repeated_step, repeated_output};
-ghost use Rattle.quick_deliver.specs.Deliver.{early_code, opened, at_initiator, identity_at, message_two_to, agreed_one, halfway, after_choice, at_responder, delivered};
+ghost use Rattle.quick_step.specs.Steps.{after_step, stepped, stepped_told, repeated_step, repeated_output};
+ghost use Rattle.quick_deliver.specs.Deliver.{early_code, opened, at_initiator, identity_at, message_two_to, agreed_one, halfway, at_responder, delivered};
 
 use policy_choice::choose::{body_at, choose_from};
 use policy_choice::{Choice, Transforms};
@@ -20,40 +21,41 @@ use quick_end::{Agreed, End, Own, Progress, State, is_given_up, is_initiator};
 use quick_shape::{alike, count_of, is_longer, shape};
 use quick_step::{StepAnswer, Stepped, kept, kept_size, small, with_state};
 use quick_taken::{agreed_two, taken_code};
-use quick_write::{Proposals, Written, put_longer, put_three};
+use quick_write::{Proposals, put_longer, put_three};
+use refusal::Refusal;
 use sa_fields::ProposalNumber;
 use sa_sets::set_numbered;
 use wire_read::{be32, front};
 use wire_write::put_bytes;
 
-// The checks before the reading: 0, or the refusal.
-fn early_code(state: State, holds: bool, tight: bool) -> u16
-    ensures { result ≡ early_code tight holds (is_given_up state) 0 }
+// The checks before the reading.
+fn early_code(state: State, holds: bool, tight: bool) -> Result<(), Refusal>
+    ensures { coded result ≡ early_code tight holds (is_given_up state) 0 }
 {
     if tight {
-        return 8192;
+        return Err(Refusal::BufferTooSmall);
     }
     if !holds {
-        return 23;
+        return Err(Refusal::InvalidHashInformation);
     }
     if is_given_up(state) {
-        return 8196;
+        return Err(Refusal::GivenUp);
     }
-    0
+    Ok(())
 }
 
-fn refuse(end: End, number: u16) -> Stepped
-    ensures { result ≡ stepped end (Refused number) }
+fn refuse(end: End, refusal: Refusal) -> Stepped
+    ensures { stepped_told result ≡ stepped end (Refused (number refusal)) }
 {
     Stepped {
         end,
-        answer: StepAnswer::Refused(number),
+        answer: StepAnswer::Refused(refusal),
     }
 }
 
 // Sends the kept message again.
 fn repeat(end: End, sent: &[u8], output: &mut [u8]) -> Stepped
-    ensures { (result ≡ repeated_step end.progress end) × (output.new ≡ repeated_output end sent.now output.old) }
+    ensures { (stepped_told result ≡ repeated_step end.progress end) × (output.new ≡ repeated_output end sent.now output.old) }
 {
     let progress = end.progress;
     put_bytes(output, 0, kept(progress.sentsize, sent));
@@ -67,7 +69,7 @@ fn repeat(end: End, sent: &[u8], output: &mut [u8]) -> Stepped
 fn open(end: End, m: &[u8], sent: &mut [u8], got: &mut [u8], output: &mut [u8]) -> Stepped
     requires { length m.now ≤ 2048 }
     ensures { opened end m.now sent.old got.old output.old ≡
-        after_step result sent.new got.new output.new }
+        after_step (stepped_told result) sent.new got.new output.new }
 {
     let own = end.own;
     let progress = end.progress;
@@ -75,18 +77,15 @@ fn open(end: End, m: &[u8], sent: &mut [u8], got: &mut [u8], output: &mut [u8]) 
     put_bytes(got, 0, m);
     put_three(sent, own, progress.id);
     let size = put_three(output, own, progress.id);
+    let progress = Progress {
+        state: State::Open,
+        sentsize: size,
+        gotsize: m.len() as u16,
+        agreed,
+        ..progress
+    };
     Stepped {
-        end: End {
-            own,
-            progress: Progress {
-                state: State::Open,
-                sends: progress.sends,
-                id: progress.id,
-                sentsize: size,
-                gotsize: m.len() as u16,
-                agreed,
-            },
-        },
+        end: End { progress, ..end },
         answer: StepAnswer::Send(size),
     }
 }
@@ -102,15 +101,14 @@ fn take_two(
 ) -> Stepped
     requires { (length m.now ≤ 2048) × (found ≡ shape_of m.now) }
     ensures { at_initiator end m.now sent.old got.old output.old Sent ≡
-        after_step result sent.new got.new output.new }
+        after_step (stepped_told result) sent.new got.new output.new }
 {
     let progress = end.progress;
     if !is_longer(found) {
-        return refuse(end, 8195);
+        return refuse(end, Refusal::CallUnexpected);
     }
-    let code = taken_code(found, kept(progress.sentsize, sent), m);
-    if code != 0 {
-        return refuse(end, code);
+    if let Err(refusal) = taken_code(found, kept(progress.sentsize, sent), m) {
+        return refuse(end, refusal);
     }
     open(end, m, sent, got, output)
 }
@@ -125,7 +123,7 @@ fn at_initiator(
 ) -> Stepped
     requires { (length m.now ≤ 2048) × (found ≡ shape_of m.now) }
     ensures { at_initiator end m.now sent.old got.old output.old end.progress.state ≡
-        after_step result sent.new got.new output.new }
+        after_step (stepped_told result) sent.new got.new output.new }
 {
     let progress = end.progress;
     let state = progress.state;
@@ -135,11 +133,9 @@ fn at_initiator(
             if alike(m, kept(progress.gotsize, got)) {
                 return repeat(end, sent, output);
             }
-            refuse(end, 8195)
+            refuse(end, Refusal::CallUnexpected)
         }
-        State::Idle => refuse(end, 8195),
-        State::Half => refuse(end, 8195),
-        State::GivenUp => refuse(end, 8195),
+        State::Idle | State::Half | State::GivenUp => refuse(end, Refusal::CallUnexpected),
     }
 }
 
@@ -186,7 +182,7 @@ fn put_two(
     let reply = Proposals::Reply(transforms);
     let written = put_longer(buffer, own, id, reply, set, first, second);
     // Never: no part is too long.
-    let Written::Size(size) = written else {
+    let Some(size) = written else {
         return 0;
     };
     size
@@ -197,59 +193,37 @@ fn be_half(
     end: End,
     m: &[u8],
     found: u8,
-    number: ProposalNumber,
-    transforms: Transforms,
-    sent: &mut [u8],
-    got: &mut [u8],
-    output: &mut [u8],
-) -> Stepped
-    requires { (length m.now ≤ 2048) × (found ≡ shape_of m.now) }
-    ensures { halfway end m.now sent.old got.old output.old number transforms
-        (set_numbered number (body_at 1 m.now)) ≡
-        after_step result sent.new got.new output.new }
-{
-    let own = end.own;
-    let gotsize = m.len() as u16;
-    let set = set_numbered(number, body_at(1, m));
-    let agreed = agreed_one(own, number, transforms, set);
-    put_bytes(got, 0, m);
-    put_two(sent, own, transforms, set, m, found);
-    let size = put_two(output, own, transforms, set, m, found);
-    Stepped {
-        end: End {
-            own,
-            progress: Progress {
-                state: State::Half,
-                sends: 1,
-                id: be32(m, 20),
-                sentsize: size,
-                gotsize,
-                agreed,
-            },
-        },
-        answer: StepAnswer::Send(size),
-    }
-}
-
-// Message 1 and the choice from its offer.
-fn after_choice(
-    end: End,
-    m: &[u8],
-    found: u8,
     choice: Choice,
     sent: &mut [u8],
     got: &mut [u8],
     output: &mut [u8],
 ) -> Stepped
     requires { (length m.now ≤ 2048) × (found ≡ shape_of m.now) }
-    ensures { after_choice end m.now sent.old got.old output.old choice ≡
-        after_step result sent.new got.new output.new }
+    ensures { halfway end m.now sent.old got.old output.old choice.set choice.transforms
+        (set_numbered choice.set (body_at 1 m.now)) ≡
+        after_step (stepped_told result) sent.new got.new output.new }
 {
-    match choice {
-        Choice::Refused(number) => refuse(end, number),
-        Choice::Chosen(number, _, transforms) => {
-            be_half(end, m, found, number, transforms, sent, got, output)
-        }
+    let own = end.own;
+    let id = be32(m, 20);
+    let gotsize = m.len() as u16;
+    let number = choice.set;
+    let transforms = choice.transforms;
+    let set = set_numbered(number, body_at(1, m));
+    let agreed = agreed_one(own, number, transforms, set);
+    put_bytes(got, 0, m);
+    put_two(sent, own, transforms, set, m, found);
+    let size = put_two(output, own, transforms, set, m, found);
+    let progress = Progress {
+        state: State::Half,
+        sends: 1,
+        id,
+        sentsize: size,
+        gotsize,
+        agreed,
+    };
+    Stepped {
+        end: End { progress, ..end },
+        answer: StepAnswer::Send(size),
     }
 }
 
@@ -264,24 +238,25 @@ fn answer_one(
 ) -> Stepped
     requires { (length m.now ≤ 2048) × (found ≡ shape_of m.now) }
     ensures { at_responder end m.now sent.old got.old output.old Idle ≡
-        after_step result sent.new got.new output.new }
+        after_step (stepped_told result) sent.new got.new output.new }
 {
     if !is_longer(found) {
-        return refuse(end, 8195);
+        return refuse(end, Refusal::CallUnexpected);
     }
     let own = end.own;
     let book = front(&own.book, own.booksize as usize);
-    let choice = choose_from(32, book, body_at(1, m));
-    after_choice(end, m, found, choice, sent, got, output)
+    match choose_from(32, book, body_at(1, m)) {
+        Ok(choice) => be_half(end, m, found, choice, sent, got, output),
+        Err(refusal) => refuse(end, refusal),
+    }
 }
 
 // A message at a Half responder: message 1 again, or message 3.
 fn at_half(end: End, m: &[u8], found: u8, sent: &[u8], got: &[u8], output: &mut [u8]) -> Stepped
     requires { found ≡ shape_of m.now }
     ensures { at_responder end m.now sent.now got.now output.old Half ≡
-        after_step result sent.now got.now output.new }
+        after_step (stepped_told result) sent.now got.now output.new }
 {
-    let own = end.own;
     let progress = end.progress;
     if alike(m, kept(progress.gotsize, got)) {
         return repeat(end, sent, output);
@@ -289,13 +264,13 @@ fn at_half(end: End, m: &[u8], found: u8, sent: &[u8], got: &[u8], output: &mut 
     if found == 1 {
         return Stepped {
             end: End {
-                own,
                 progress: with_state(State::Open, progress),
+                ..end
             },
             answer: StepAnswer::Nothing,
         };
     }
-    refuse(end, 8195)
+    refuse(end, Refusal::CallUnexpected)
 }
 
 fn at_responder(
@@ -308,7 +283,7 @@ fn at_responder(
 ) -> Stepped
     requires { (length m.now ≤ 2048) × (found ≡ shape_of m.now) }
     ensures { at_responder end m.now sent.old got.old output.old end.progress.state ≡
-        after_step result sent.new got.new output.new }
+        after_step (stepped_told result) sent.new got.new output.new }
 {
     let progress = end.progress;
     let state = progress.state;
@@ -322,10 +297,9 @@ fn at_responder(
                     answer: StepAnswer::Nothing,
                 };
             }
-            refuse(end, 8195)
+            refuse(end, Refusal::CallUnexpected)
         }
-        State::Sent => refuse(end, 8195),
-        State::GivenUp => refuse(end, 8195),
+        State::Sent | State::GivenUp => refuse(end, Refusal::CallUnexpected),
     }
 }
 
@@ -339,23 +313,20 @@ pub fn deliver(
     output: &mut [u8],
 ) -> Stepped
     ensures { delivered end holds m.now sent.old got.old output.old ≡
-        after_step result sent.new got.new output.new }
+        after_step (stepped_told result) sent.new got.new output.new }
 {
     let own = end.own;
-    let role = own.role;
     let progress = end.progress;
     let state = progress.state;
-    let early = early_code(state, holds, small(sent, got, output));
-    if early != 0 {
-        return refuse(end, early);
+    if let Err(refusal) = early_code(state, holds, small(sent, got, output)) {
+        return refuse(end, refusal);
     }
     let read = message_chain::read(m);
-    let code = read_code(own, state, progress.id, m, read);
-    if code != 0 {
-        return refuse(end, code);
+    if let Err(refusal) = read_code(own, state, progress.id, m, read) {
+        return refuse(end, refusal);
     }
     let found = shape(count_of(read), m);
-    if is_initiator(role) {
+    if is_initiator(own.role) {
         return at_initiator(end, m, found, sent, got, output);
     }
     at_responder(end, m, found, sent, got, output)

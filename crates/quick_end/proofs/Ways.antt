@@ -1,25 +1,55 @@
 -- A law for each way out of the functions that make an end.
 use Prim.Native.Nat.{ℕ, ◌≤◌}
-use mathlib.Core.Path.{◌≡◌, sym, ap, ◌∙◌}
+use denote.Enum.Bare.{sameb}
+use mathlib.Core.Path.{◌≡◌, refl, sym, ap, ◌∙◌}
 use mathlib.Core.List.{List}
 use mathlib.Core.Bool.{Bool, true, false, not, ◌||◌, ◌&&◌}
 use native.Mathlib.Omega.{arith}
-use lib.ListN.{length, take, replicate}
+use lib.ListN.{length, replicate}
 use lib.Dec.{eqb, ltb, leb}
-use borrow.Author.Tests.{eq-eqb, ne_eqb}
+use Rattle.std.specs.Prelude.{Result, Ok, Err}
+use Rattle.std.specs.Result.{IsErrAnd}
+use Rattle.refusal.specs.declared.Refusal.{Refusal}
+use Rattle.refusal.specs.Numbers.{number}
+use Rattle.refusal.proofs.Laws.{number-not_zero}
 use Rattle.wire_write.specs.Put.{paste}
 use Rattle.policy_lines.specs.Lines.{book_size}
 use Rattle.policy_book.specs.Book.{book_in_front}
 use Rattle.policy_book.proofs.Laws.{book-short}
 use Rattle.quick_end.proofs.Laws.{Lawful, fresh-lawful}
-use Rattle.quick_end.specs.Fresh.{fresh_code, idle, own_of, fresh}
+use Rattle.quick_end.specs.Fresh.{is_idle, is_initiator, is_given_up, fresh_code, idle, own_of, made_told, fresh}
+use Rattle.quick_end.specs.contracts.Role as roles
+use Rattle.quick_end.specs.contracts.State as states
 use Rattle.quick_end.specs.declared.Role.{Role}
+use Rattle.quick_end.specs.declared.Role.TheVariants.{Initiator, Responder}
+use Rattle.quick_end.specs.declared.State.{State}
+use Rattle.quick_end.specs.declared.State.TheVariants.{Idle, Sent, Half, Open, GivenUp}
 use Rattle.quick_end.specs.declared.Own.{Own}
 use Rattle.quick_end.specs.declared.Progress.{Progress}
+use Rattle.quick_end.specs.declared.End.{End}
 
--- no bytes fit anywhere
-pub none-fits : (s none : List ℕ) (n : ℕ) → none ≡ take 0 s → length none ≤ n
-none-fits s none n e = omega (arith, ap length e)
+-- ---- what an end is asked: equality with a variant, as the derive has it
+
+pub idle-same : (state : State) → sameb states.the_type state Idle ≡ is_idle state
+unfolding is_idle
+idle-same Idle = refl
+idle-same Sent = refl
+idle-same Half = refl
+idle-same Open = refl
+idle-same GivenUp = refl
+
+pub given_up-same : (state : State) → sameb states.the_type state GivenUp ≡ is_given_up state
+unfolding is_given_up
+given_up-same Idle = refl
+given_up-same Sent = refl
+given_up-same Half = refl
+given_up-same Open = refl
+given_up-same GivenUp = refl
+
+pub initiator-same : (role : Role) → sameb roles.the_type role Initiator ≡ is_initiator role
+unfolding is_initiator
+initiator-same Initiator = refl
+initiator-same Responder = refl
 
 -- ---- a fresh end
 
@@ -63,9 +93,9 @@ module _ (icookie rcookie : ℕ) (book : List ℕ) (ah esp : ℕ) (nonce : List 
         unfolding fresh_code
         fresh_passed h = rw (cookies, ← ef, ← es, lawful, spis, h)
 
-  module _ (number : ℕ) (en : number ≡ fresh_code icookie rcookie book ah esp nonce) (h : number ≡ 0) where
+  module _ (passes : 0 ≡ fresh_code icookie rcookie book ah esp nonce) where
     its : Lawful icookie rcookie book ah esp nonce
-    its = fresh-lawful icookie rcookie book ah esp nonce (sym en ∙ h)
+    its = fresh-lawful icookie rcookie book ah esp nonce (sym passes)
 
     pub book-fits : length book ≤ 82
     book-fits = book-short book its.book-lawful its.book-whole
@@ -73,13 +103,19 @@ module _ (icookie rcookie : ℕ) (book : List ℕ) (ah esp : ℕ) (nonce : List 
     pub nonce-fits : length nonce ≤ 256
     nonce-fits = its.nonce-short
 
-  module _ (role : Role) (number : ℕ) (en : number ≡ fresh_code icookie rcookie book ah esp nonce) (p : Progress) (ep : p ≡ idle) (own : Own) where
-    pub fresh-made : number ≡ 0 → own ≡ own_of role icookie rcookie book ah esp nonce →
-        record { number = number; end = record { own = own; progress = p } } ≡ fresh role icookie rcookie book ah esp nonce
+  module _ (role : Role) where
+    pub fresh-made : 0 ≡ fresh_code icookie rcookie book ah esp nonce → (own : Own) → own ≡ own_of role icookie rcookie book ah esp nonce →
+        (p : Progress) → p ≡ idle → made_told role (Ok (record { own = own; progress = p })) ≡ fresh role icookie rcookie book ah esp nonce
     unfolding fresh
-    fresh-made h eo = rw (← en, eq-eqb number 0 h, h, eo, ep)
+    fresh-made passes own eo p ep = rw (← passes, eo, ep)
 
-    pub fresh-refused : (number ≡ 0 → ⊥) → (a b : List ℕ) → a ≡ take 0 book → b ≡ take 0 nonce → own ≡ own_of role 0 0 a 0 0 b →
-        record { number = number; end = record { own = own; progress = p } } ≡ fresh role icookie rcookie book ah esp nonce
+    pub fresh-refused : (refusal : Refusal) → number refusal ≡ fresh_code icookie rcookie book ah esp nonce →
+        made_told role (Err refusal) ≡ fresh role icookie rcookie book ah esp nonce
     unfolding fresh
-    fresh-refused h a b ea eb eo = rw (← en, ne_eqb number 0 h, eo, ep, ea, eb)
+    fresh-refused refusal en = rw (← en, number-not_zero refusal)
+
+-- what a `?` hands on is told as the refusal that it was given
+pub made-handed_on : (role : Role) (answer : Result End Refusal) (given : Refusal) → IsErrAnd answer (λ refusal. refusal ≡ given) →
+    made_told role answer ≡ made_told role (Err given)
+made-handed_on role (Ok made) given same = absurd same
+made-handed_on role (Err refusal) given same = ap (λ (r : Refusal). made_told role (Err r)) same

@@ -1,5 +1,5 @@
 -- What an end is asked, and a fresh one, document 01, "Quick mode ends".
-use Rattle.std.specs.Prelude.{ℕ, [], Bool, true, false, not, ◌||◌, ◌&&◌, length, replicate, ltb, leb, eqb}
+use Rattle.std.specs.Prelude.{ℕ, [], Bool, true, false, not, ◌||◌, ◌&&◌, length, replicate, Result, Ok, Err, ltb, leb, eqb}
 use Rattle.wire_read.specs.Wire.{Bytes, Code}
 use Rattle.wire_write.specs.Put.{paste}
 use Rattle.wire_read.specs.Tests.{if◌then◌otherwise◌}
@@ -13,7 +13,9 @@ use Rattle.quick_end.specs.declared.State.TheVariants.{Idle, Sent, Half, Open, G
 use Rattle.quick_end.specs.declared.Own.{Own}
 use Rattle.quick_end.specs.declared.Spis.TheVariants.{Alone}
 use Rattle.quick_end.specs.declared.Progress.{Progress}
-use Rattle.quick_end.specs.declared.Made.{Made}
+use Rattle.quick_end.specs.declared.End.{End}
+use Rattle.refusal.specs.declared.Refusal.{Refusal}
+use Rattle.refusal.specs.Numbers.{number}
 
 unfoldable pub is_idle : (state : State) → Bool
 is_idle Idle = true
@@ -68,9 +70,19 @@ own_of role icookie rcookie book ah esp nonce = record {
   nonce = paste (replicate 256 0) 0 nonce;
 }
 
+-- a number, 0 for done, and the end
+pub record Made : Type 0 where
+  pub number : ℕ
+  pub end : End
+
 -- a refusal comes with an end that holds nothing but its role
 unfoldable pub fresh : (role : Role) (icookie rcookie : ℕ) (book : Bytes) (ah esp : ℕ) (nonce : Bytes) → Made
 fresh role icookie rcookie book ah esp nonce =
     if eqb (fresh_code icookie rcookie book ah esp nonce) 0
     then record { number = 0; end = record { own = own_of role icookie rcookie book ah esp nonce; progress = idle } }
     otherwise record { number = fresh_code icookie rcookie book ah esp nonce; end = record { own = own_of role 0 0 [] 0 0 []; progress = idle } }
+
+-- an end that is made, or the refusal: its number, and an end that holds nothing
+abbrev pub made_told : (role : Role) (answer : Result End Refusal) → Made
+made_told role (Ok end) = record { number = 0; end = end }
+made_told role (Err refusal) = record { number = number refusal; end = record { own = own_of role 0 0 [] 0 0 []; progress = idle } }

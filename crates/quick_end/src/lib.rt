@@ -2,22 +2,23 @@
 #![tactic(auto)]
 
 ghost use Rattle.std.specs.Prelude.{◌≡◌, ◌≤◌, length};
-ghost use Rattle.quick_end.specs.Fresh.{is_idle, is_initiator, is_given_up, fresh_code, idle, own_of, fresh};
+ghost use Rattle.refusal.specs.Numbers.{coded};
+ghost use Rattle.quick_end.specs.Fresh.{is_idle, is_initiator, is_given_up, fresh_code, idle, own_of, made_told, fresh};
 
 use policy_book::book_in_front;
 use policy_choice::Transforms;
 use policy_lines::book_size;
+use refusal::Refusal;
 use sa_fields::{ProposalNumber, TransformNumber};
-use wire_read::front;
 use wire_write::put_bytes;
 
-#[derive(Clone, Copy)]
+#[derive(Clone, Copy, Debug, PartialEq, Eq)]
 pub enum Role {
     Initiator,
     Responder,
 }
 
-#[derive(Clone, Copy)]
+#[derive(Clone, Copy, Debug, PartialEq, Eq)]
 pub enum State {
     Idle,
     Sent,
@@ -26,7 +27,8 @@ pub enum State {
     GivenUp,
 }
 
-// What an end is given once: cookies, its SPIs, and the first bytes of two arrays as its book and its nonce.
+// What an end is given once: cookies, its SPIs, and the first bytes of two arrays as its book and its nonce: an end has a fixed size, so
+// that C lends it.
 #[derive(Clone, Copy)]
 pub struct Own {
     pub role: Role,
@@ -73,62 +75,48 @@ pub struct End {
     pub progress: Progress,
 }
 
-// What `fresh` gives: a number, 0 for done, and the end.
-#[derive(Clone, Copy)]
-pub struct Made {
-    pub number: u16,
-    pub end: End,
-}
-
+// One comparison each; they stay functions, since each has a contract, a theorem and an edit of its own.
 pub fn is_idle(state: State) -> bool
     ensures { result ≡ is_idle state }
 {
-    match state {
-        State::Idle => true,
-        State::Sent => false,
-        State::Half => false,
-        State::Open => false,
-        State::GivenUp => false,
-    }
+    state == State::Idle
 }
 
 pub fn is_initiator(role: Role) -> bool
     ensures { result ≡ is_initiator role }
 {
-    match role {
-        Role::Initiator => true,
-        Role::Responder => false,
-    }
+    role == Role::Initiator
 }
 
 pub fn is_given_up(state: State) -> bool
     ensures { result ≡ is_given_up state }
 {
-    match state {
-        State::GivenUp => true,
-        State::Idle => false,
-        State::Sent => false,
-        State::Half => false,
-        State::Open => false,
-    }
+    state == State::GivenUp
 }
 
-fn fresh_code(icookie: u64, rcookie: u64, book: &[u8], ah: u32, esp: u32, nonce: &[u8]) -> u16
-    ensures { result ≡ fresh_code icookie rcookie book.now ah esp nonce.now }
+fn fresh_code(
+    icookie: u64,
+    rcookie: u64,
+    book: &[u8],
+    ah: u32,
+    esp: u32,
+    nonce: &[u8],
+) -> Result<(), Refusal>
+    ensures { coded result ≡ fresh_code icookie rcookie book.now ah esp nonce.now }
 {
     if (icookie == 0) | (rcookie == 0) {
-        return 4;
+        return Err(Refusal::InvalidCookie);
     }
     if !(book_in_front(book) & (book_size(book) as usize == book.len())) {
-        return 8193;
+        return Err(Refusal::BookUnlawful);
     }
     if (ah < 256) | (esp < 256) {
-        return 11;
+        return Err(Refusal::InvalidSpi);
     }
     if !((8 <= nonce.len()) & (nonce.len() <= 256)) {
-        return 16;
+        return Err(Refusal::PayloadMalformed);
     }
-    0
+    Ok(())
 }
 
 fn idle() -> Progress
@@ -180,7 +168,7 @@ fn own_of(
     }
 }
 
-// Makes an end. With a number other than 0 it was refused, and the end holds nothing.
+// Makes an end.
 pub fn fresh(
     role: Role,
     icookie: u64,
@@ -189,21 +177,11 @@ pub fn fresh(
     ah: u32,
     esp: u32,
     nonce: &[u8],
-) -> Made
-    ensures { result ≡ fresh role icookie rcookie book.now ah esp nonce.now }
+) -> Result<End, Refusal>
+    ensures { made_told role result ≡ fresh role icookie rcookie book.now ah esp nonce.now }
 {
-    let number = fresh_code(icookie, rcookie, book, ah, esp, nonce);
+    fresh_code(icookie, rcookie, book, ah, esp, nonce)?;
+    let own = own_of(role, icookie, rcookie, book, ah, esp, nonce);
     let progress = idle();
-    if number == 0 {
-        let own = own_of(role, icookie, rcookie, book, ah, esp, nonce);
-        return Made {
-            number,
-            end: End { own, progress },
-        };
-    }
-    let own = own_of(role, 0, 0, front(book, 0), 0, 0, front(nonce, 0));
-    Made {
-        number,
-        end: End { own, progress },
-    }
+    Ok(End { own, progress })
 }

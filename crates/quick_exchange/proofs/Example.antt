@@ -38,13 +38,13 @@ use Rattle.quick_begin.specs.Begin as begins
 use Rattle.quick_tick.specs.Tick as ticks
 use Rattle.quick_deliver.specs.Deliver as delivers
 use Rattle.policy_choice.specs.declared.Transforms.TheVariants.{Two}
-use Rattle.policy_choice.specs.declared.Choice.TheVariants.{Chosen}
+use Rattle.policy_choice.specs.Choice.{Chosen}
 use Rattle.quick_end.specs.declared.Role.TheVariants.{Initiator, Responder}
 use Rattle.quick_end.specs.declared.Spis.TheVariants.{Both}
 use Rattle.quick_end.specs.declared.Agreed.{Agreed}
 use Rattle.quick_end.specs.declared.State.{State}
 use Rattle.quick_end.specs.declared.State.TheVariants.{Idle, Sent, Half, Open, GivenUp}
-use Rattle.quick_step.specs.declared.StepAnswer.TheVariants.{Send}
+use Rattle.quick_step.specs.Steps.{Send}
 use Rattle.quick_exchange.specs.Exchange.{Party, begin, deliver, tick, called, World, Event, at_first, at_second, step, Heard, here, Run, rest, goes, Fresh, state_of, agreed_of, FullSize, Beginning, after_begin, Chooses, one_of, two_of, three_of, Arrives, delivery}
 use Rattle.quick_exchange.proofs.Moves.{refused-is}
 
@@ -212,7 +212,7 @@ unfolding start book_one book_two first_identity second_identity nonce_one nonce
     identities.quick_data identities.port_zero identities.lawful identities.identity_code
     payloads.type_wrong payloads.length_out payloads.hash_code payloads.nonce_code payloads.body_code payloads.body_of payloads.payload_code payloads.rest_code
     message.in_front message.chain message.reading message.exchange_and_count message.message message.walk message.payload_at
-    parts.skip parts.parts items.first_item items.after_item sets.set_end sets.first_set sets.after_set items.numbered sets.set sets.set_count sets.set_numbered
+    parts.skip parts.parts items.first_item items.after_item sets.set_end sets.first_set sets.after_set parts.numbered sets.set sets.set_count sets.set_numbered
     items.proposal items.proposal_count fields.proposal_number fields.protocol fields.spi fields.transform_count items.transform items.transform_numbered
     fields.transform_number fields.transform_id fields.attributes_of
     lines.quick_start lines.quick_count lines.book_size lines.main_seconds lines.quick_at lines.quick_protocols lines.quick_mode lines.quick_seconds

@@ -15,7 +15,7 @@ use Rattle.quick_end.proofs.Laws.{fresh-lawful}
 use Rattle.quick_end.specs.Fresh.{fresh_code, idle, own_of, fresh}
 use Rattle.quick_end.specs.declared.Role.{Role}
 use Rattle.quick_end.specs.declared.State.TheVariants.{Idle}
-use Rattle.quick_end.specs.declared.Made.{Made}
+use Rattle.quick_end.specs.Fresh.{Made}
 use Rattle.quick_end.specs.declared.End.{End}
 use Rattle.quick_exchange.proofs.MessageShapes.{Fit}
 use Rattle.quick_exchange.specs.Exchange.{FreshEnd}

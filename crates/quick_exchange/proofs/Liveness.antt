@@ -14,9 +14,9 @@ use Rattle.wire_write.specs.Put.{paste}
 use Rattle.wire_read.proofs.Tests.{never, clash, both, by_test}
 use Rattle.sa_sets.specs.Sets.{set_numbered}
 use Rattle.policy_choice.specs.Choice.{body_at, choose_from}
-use Rattle.policy_choice.specs.declared.Choice.TheVariants.{Chosen}
+use Rattle.policy_choice.specs.Choice.{Chosen}
 use Rattle.message_chain.specs.Message.{message}
-use Rattle.message_chain.specs.declared.Message.TheVariants.{Read}
+use Rattle.message_chain.specs.Message.{Read}
 use Rattle.quick_write.specs.Messages.{book_of, lines, offer_of, message_one, message_two, message_three}
 use Rattle.quick_end.specs.Fresh.{is_idle, is_initiator, is_given_up}
 use Rattle.quick_shape.specs.Shapes.{is_longer, alike, shape_of}
@@ -30,8 +30,8 @@ use Rattle.quick_end.specs.declared.State.{State}
 use Rattle.quick_end.specs.declared.State.TheVariants.{Idle, Sent, Half, Open, GivenUp}
 use Rattle.quick_end.specs.declared.Own.{Own}
 use Rattle.quick_end.specs.declared.Progress.{Progress}
-use Rattle.quick_step.specs.declared.StepAnswer.{StepAnswer}
-use Rattle.quick_step.specs.declared.StepAnswer.TheVariants.{Send, Nothing, Refused}
+use Rattle.quick_step.specs.Steps.{StepAnswer}
+use Rattle.quick_step.specs.Steps.{Send, Nothing, Refused}
 use Rattle.quick_exchange.proofs.MessageShapes.{payloads_with}
 use Rattle.quick_exchange.proofs.MessageLaws.{longer-passes, third_passes}
 use Rattle.quick_exchange.specs.Exchange.{Party, deliver, called, left, said, logged, World, at_first, at_second, step, Heard, here, there, Fair, Run, rest, goes, Fresh, state_of, sent_of, got_of, FullSize, Only, one, more, Then, turn, next, Beginning, begin_call, after_begin, Chooses, one_of, two_of, three_of, Arrives, delivery}

@@ -26,7 +26,7 @@ use Rattle.message_payload.specs.Payloads.{type_wrong, length_out, hash_code, no
 use Rattle.message_chain.proofs.Laws.{count-more}
 use Rattle.message_chain.specs.Message.{in_front, chain, reading, exchange_and_count, message, walk, payload_at}
 use Rattle.message_chain.specs.declared.Payload.{Payload}
-use Rattle.message_chain.specs.declared.Message.TheVariants.{Read}
+use Rattle.message_chain.specs.Message.{Read}
 use Rattle.policy_choice.specs.Choice.{body_at}
 use Rattle.policy_reply.specs.Reply.{sa_of}
 use Rattle.quick_write.specs.Messages.{nonce_of, hash, padding, padded, header, message_of, nonce_and_identities, longer, message_three}

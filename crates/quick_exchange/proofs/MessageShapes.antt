@@ -12,7 +12,7 @@ use Rattle.wire_read.specs.Tests.{if◌then◌otherwise◌}
 use Rattle.identity.specs.Identity.{identity_code}
 use Rattle.message_header.specs.Header.{flags_of}
 use Rattle.message_chain.specs.Message.{message}
-use Rattle.message_chain.specs.declared.Message.TheVariants.{Read}
+use Rattle.message_chain.specs.Message.{Read}
 use Rattle.policy_book.specs.Book.{book_in_front}
 use Rattle.policy_lines.specs.Lines.{book_size}
 use Rattle.policy_choice.specs.Choice.{body_at, choose_from}
@@ -24,7 +24,7 @@ use Rattle.sa_sets.specs.Sets.{set_numbered}
 use Rattle.sa_fields.specs.declared.ProposalNumber.{ProposalNumber}
 use Rattle.policy_lines.specs.declared.LineNumber.{LineNumber}
 use Rattle.policy_choice.specs.declared.Transforms.{Transforms}
-use Rattle.policy_choice.specs.declared.Choice.TheVariants.{Chosen}
+use Rattle.policy_choice.specs.Choice.{Chosen}
 
 -- an own that `fresh` lets pass, of numbers as wide as the record has them
 pub record Fit (own : Own) : Type 0 where

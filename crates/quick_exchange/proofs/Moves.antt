@@ -17,8 +17,8 @@ use Rattle.wire_write.proofs.Laws.{paste_inside}
 use Rattle.identity.specs.Identity.{identity_code}
 use Rattle.sa_sets.specs.Sets.{set_numbered}
 use Rattle.policy_choice.specs.Choice.{body_at, choose_from}
-use Rattle.policy_choice.specs.declared.Choice.{Choice}
-use Rattle.policy_choice.specs.declared.Choice.TheVariants as choices
+use Rattle.policy_choice.specs.Choice.{Choice}
+use Rattle.policy_choice.specs.Choice as choices
 use Rattle.quick_write.specs.Messages.{book_of, lines, message_one}
 use Rattle.message_chain.specs.Message.{message}
 use Rattle.quick_end.specs.Fresh.{is_idle, is_initiator, is_given_up}
@@ -34,8 +34,8 @@ use Rattle.quick_end.specs.declared.Role.TheVariants.{Initiator, Responder}
 use Rattle.quick_end.specs.declared.State.{State}
 use Rattle.quick_end.specs.declared.State.TheVariants.{Idle, Sent, Half, Open, GivenUp}
 use Rattle.quick_end.specs.declared.Own.{Own}
-use Rattle.quick_step.specs.declared.StepAnswer.{StepAnswer}
-use Rattle.quick_step.specs.declared.StepAnswer.TheVariants.{Send, Nothing, Refused}
+use Rattle.quick_step.specs.Steps.{StepAnswer}
+use Rattle.quick_step.specs.Steps.{Send, Nothing, Refused}
 use Rattle.quick_exchange.proofs.MessageShapes.{Identities}
 use Rattle.quick_exchange.specs.Exchange.{Party, Call, begin, deliver, tick, called, left, Heard, Allowed, state_of, FullSize, Chooses}
 

@@ -30,8 +30,8 @@ use Rattle.policy_reply.specs.Reply.{own_spi, set_reply, sa_of, spi_low, spis_lo
 use Rattle.policy_lines.specs.declared.LineNumber.{LineNumber}
 use Rattle.policy_choice.specs.declared.Transforms.{Transforms}
 use Rattle.policy_choice.specs.declared.Transforms.TheVariants.{One, Two}
-use Rattle.policy_choice.specs.declared.Choice.{Choice}
-use Rattle.policy_choice.specs.declared.Choice.TheVariants.{Chosen}
+use Rattle.policy_choice.specs.Choice.{Choice}
+use Rattle.policy_choice.specs.Choice.{Chosen}
 use Rattle.policy_suiting.proofs.Laws.{Passed, suits_passed}
 use Rattle.policy_choice.proofs.Laws.{Choosing, fourteen, chose, choosing}
 use Rattle.policy_choice.proofs.ChoiceLaws.{taken-by-number}

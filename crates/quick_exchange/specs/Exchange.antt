@@ -12,7 +12,7 @@ use Rattle.policy_choice.specs.Choice.{body_at, choose_from}
 use Rattle.policy_lines.specs.declared.LineNumber.{LineNumber}
 use Rattle.policy_choice.specs.declared.Transforms.{Transforms}
 use Rattle.policy_choice.specs.declared.Transforms.TheVariants.{One, Two}
-use Rattle.policy_choice.specs.declared.Choice.TheVariants.{Chosen}
+use Rattle.policy_choice.specs.Choice.{Chosen}
 use Rattle.quick_write.specs.Messages.{book_of, nonce_of, offer_of, message_one, message_two, message_three}
 use Rattle.quick_shape.specs.Shapes.{alike, nonce}
 use Rattle.quick_end.specs.Fresh.{fresh}
@@ -29,8 +29,8 @@ use Rattle.quick_end.specs.declared.Spis.{Spis}
 use Rattle.quick_end.specs.declared.Spis.TheVariants.{Alone, Both}
 use Rattle.quick_end.specs.declared.Agreed.{Agreed}
 use Rattle.quick_end.specs.declared.End.{End}
-use Rattle.quick_step.specs.declared.StepAnswer.{StepAnswer}
-use Rattle.quick_step.specs.declared.StepAnswer.TheVariants.{Send, Nothing, Refused}
+use Rattle.quick_step.specs.Steps.{StepAnswer}
+use Rattle.quick_step.specs.Steps.{Send, Nothing, Refused}
 
 -- one end between two calls: "the record its last call left", and its kept buffers as that call left them
 pub record Party : Type 0 where

@@ -2,7 +2,7 @@
 use Rattle.std.specs.Prelude.{ℕ, ◌+◌, ◌%◌, ◌<◌, ◌≤◌, ◌≡◌, List, [], ◌∷◌, ◌++◌, length, drop, replicate}
 use Rattle.wire_read.specs.Wire.{Bytes}
 use Rattle.message_chain.specs.Message.{message}
-use Rattle.message_chain.specs.declared.Message.TheVariants.{Read}
+use Rattle.message_chain.specs.Message.{Read}
 use Rattle.quick_write.specs.Messages.{padding}
 
 -- behind its header a message has these payloads, and then fewer than 16 zero bytes, to a multiple of 16

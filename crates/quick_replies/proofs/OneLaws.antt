@@ -21,8 +21,8 @@ use Rattle.message_header.specs.Header.{exchange_of, flags_of, first_payload, me
 use Rattle.message_payload.specs.Payloads.{type_wrong, length_out, body_code, body_of, payload_code, rest_code}
 use Rattle.message_chain.specs.Message.{chain, reading, exchange_and_count, message, walk, payload_at}
 use Rattle.message_chain.specs.declared.Payload.{Payload}
-use Rattle.message_chain.specs.declared.Message.{Message}
-use Rattle.message_chain.specs.declared.Message.TheVariants.{Refused, Read}
+use Rattle.message_chain.specs.Message.{Message}
+use Rattle.message_chain.specs.Message.{Refused, Read}
 use Rattle.message_chain.proofs.Laws.{count-more, read_as, reading-header, refusal_some}
 use Rattle.policy_choice.specs.Choice.{body_at, sa_from}
 use Rattle.policy_choice.proofs.ChoiceLaws.{body_reads}

@@ -15,10 +15,10 @@ use Rattle.message_header.specs.Header.{message_id_of}
 use Rattle.message_chain.specs.Message.{message}
 use Rattle.policy_lines.specs.Lines.{main_count, quick_count}
 use Rattle.policy_book.specs.Book.{book_read}
-use Rattle.policy_book.specs.declared.Book.TheVariants as books
+use Rattle.policy_book.specs.Book as books
 use Rattle.policy_choice.specs.Choice.{body_at, sa_from, choose_from, message_choice, book_choice, choice}
-use Rattle.policy_choice.specs.declared.Choice.{Choice}
-use Rattle.policy_choice.specs.declared.Choice.TheVariants.{Refused, Chosen}
+use Rattle.policy_choice.specs.Choice.{Choice}
+use Rattle.policy_choice.specs.Choice.{Refused, Chosen}
 use Rattle.policy_choice.proofs.ChoiceLaws.{chose_says}
 use Rattle.policy_reply.specs.Reply.{set_reply, sa_of}
 use Rattle.policy_reply.proofs.ReplyLaws.{sa_long, choice-repeats, choice-short}

@@ -12,7 +12,7 @@ use Rattle.wire_read.proofs.Tests.{by_test, passed}
 use Rattle.sa_proposals.specs.Proposals.{proposals_code, offer_code}
 use Rattle.sa_proposals.specs.Proposals as proposals
 use Rattle.message_chain.specs.Message.{message}
-use Rattle.message_chain.specs.declared.Message.TheVariants.{Read}
+use Rattle.message_chain.specs.Message.{Read}
 use Rattle.policy_choice.specs.Choice.{sa_from}
 use Rattle.policy_reply.specs.Reply.{sa_of}
 use Rattle.policy_reply.proofs.ReplyWays.{sa_size}

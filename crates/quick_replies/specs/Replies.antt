@@ -3,7 +3,7 @@ use Rattle.std.specs.Prelude.{ℕ, ◌<◌, ◌≡◌, List, [], ◌∷◌, leng
 use Rattle.wire_read.specs.Wire.{Bytes}
 use Rattle.sa_sets.specs.Sets.{set_numbered}
 use Rattle.message_chain.specs.Message.{message}
-use Rattle.message_chain.specs.declared.Message.TheVariants.{Read}
+use Rattle.message_chain.specs.Message.{Read}
 use Rattle.policy_choice.specs.Choice.{body_at, sa_from}
 use Rattle.policy_reply.specs.Reply.{set_reply, sa_of}
 use Rattle.quick_end.specs.declared.Own.{Own}

@@ -11,7 +11,7 @@ use Rattle.wire_read.specs.Wire.{equal}
 use Rattle.wire_read.proofs.Tests.{both}
 use Rattle.wire_read.proofs.Laws.{equal-same, equal-true}
 use Rattle.message_chain.specs.Message.{message}
-use Rattle.message_chain.specs.declared.Message.{Message}
+use Rattle.message_chain.specs.Message.{Message}
 use Rattle.quick_shape.specs.Shapes.{shape, count_of, shape_of, alike}
 
 pub shape-found : (m : List ℕ) (read : Message) → read ≡ message m → (count found : ℕ) → count ≡ count_of read → found ≡ shape count m → found ≡ shape_of m

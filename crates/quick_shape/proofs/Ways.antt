@@ -7,8 +7,8 @@ use lib.ListN.{length, take, drop}
 use lib.Dec.{eqb}
 use Rattle.wire_read.specs.Wire.{equal}
 use Rattle.message_chain.specs.Message.{message}
-use Rattle.message_chain.specs.declared.Message.{Message}
-use Rattle.message_chain.specs.declared.Message.TheVariants.{Refused, Read}
+use Rattle.message_chain.specs.Message.{Message}
+use Rattle.message_chain.specs.Message.{Refused, Read}
 use Rattle.policy_choice.specs.Choice.{body_at}
 use Rattle.quick_end.specs.declared.Role.{Role}
 use Rattle.quick_end.specs.declared.Role.TheVariants.{Initiator, Responder}
@@ -48,17 +48,17 @@ module _ (role : Role) (one two r : List ℕ) where
   unfolding nonce
   nonce-two h e = rw h e
 
-module _ (m r : List ℕ) (c : Message) (ec : c ≡ message m) where
-  pub nonce-refused : (number : ℕ) → c ≡ Refused number → r ≡ take 0 m → r ≡ nonce_in m
+module _ (m r : List ℕ) where
+  pub nonce-refused : (number : ℕ) → Refused number ≡ message m → r ≡ take 0 m → r ≡ nonce_in m
   unfolding nonce_in nonce_read
-  nonce-refused number h e = rw (← ec, h) e
+  nonce-refused number ec e = rw (← ec) e
 
-  module _ (exchange count : ℕ) (readable : c ≡ Read exchange count) (found : ℕ) (es : found ≡ shape count m) (longer : Bool)
+  module _ (exchange count : ℕ) (ec : Read exchange count ≡ message m) (found : ℕ) (es : found ≡ shape count m) (longer : Bool)
       (el : longer ≡ is_longer found) where
     pub nonce-body : (eqb exchange 32 && longer) ≡ true → r ≡ body_at 2 m → r ≡ nonce_in m
     unfolding nonce_in nonce_read
-    nonce-body h e = rw (← ec, readable, ← es, ← el, h) e
+    nonce-body h e = rw (← ec, ← es, ← el, h) e
 
     pub nonce-other : (eqb exchange 32 && longer) ≡ false → r ≡ take 0 m → r ≡ nonce_in m
     unfolding nonce_in nonce_read
-    nonce-other h e = rw (← ec, readable, ← es, ← el, h) e
+    nonce-other h e = rw (← ec, ← es, ← el, h) e

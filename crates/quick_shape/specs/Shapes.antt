@@ -3,8 +3,8 @@ use Rattle.std.specs.Prelude.{ℕ, [], Bool, ◌||◌, ◌&&◌, length, take, d
 use Rattle.wire_read.specs.Wire.{Bytes, equal}
 use Rattle.wire_read.specs.Tests.{if◌then◌otherwise◌}
 use Rattle.message_chain.specs.Message.{message, payload_at}
-use Rattle.message_chain.specs.declared.Message.{Message}
-use Rattle.message_chain.specs.declared.Message.TheVariants.{Refused, Read}
+use Rattle.message_chain.specs.Message.{Message}
+use Rattle.message_chain.specs.Message.{Refused, Read}
 use Rattle.policy_choice.specs.Choice.{body_at}
 use Rattle.quick_end.specs.declared.Role.{Role}
 use Rattle.quick_end.specs.declared.Role.TheVariants.{Initiator, Responder}

@@ -2,11 +2,13 @@
 #![tactic(auto)]
 
 ghost use Rattle.std.specs.Prelude.{◌≡◌};
+ghost use Rattle.message_chain.specs.Message.{message_told};
 ghost use Rattle.quick_shape.specs.Shapes.{type_is, shape, is_longer, alike, count_of, shape_of, nonce_in, nonce};
 
 use message_chain::{Message, payload_at};
 use policy_choice::choose::body_at;
 use quick_end::Role;
+use refusal::Refusal;
 use wire_read::{after, equal, front};
 
 fn type_is(k: u8, m: &[u8], payloadtype: u8) -> bool
@@ -42,12 +44,12 @@ pub fn alike(m: &[u8], n: &[u8]) -> bool
     (m.len() == n.len()) & equal(front(m, 32), front(n, 32)) & equal(after(m, 64), after(n, 64))
 }
 
-pub fn count_of(read: Message) -> u8
-    ensures { result ≡ count_of read }
+pub fn count_of(read: Result<Message, Refusal>) -> u8
+    ensures { result ≡ count_of (message_told read) }
 {
     match read {
-        Message::Refused(_) => 0,
-        Message::Read { exchange: _, count } => count,
+        Ok(message) => message.count,
+        Err(_) => 0,
     }
 }
 
@@ -61,8 +63,7 @@ pub fn shape_of(m: &[u8]) -> u8
 fn nonce_in(m: &[u8]) -> &[u8]
     ensures { result.now ≡ nonce_in m.now }
 {
-    let read = message_chain::read(m);
-    let Message::Read { exchange, count } = read else {
+    let Ok(Message { exchange, count }) = message_chain::read(m) else {
         return front(m, 0);
     };
     if (exchange == 32) & is_longer(shape(count, m)) {

@@ -6,9 +6,28 @@ use Rattle.wire_read.specs.Answer.{Answer, done, refused}
 use Rattle.quick_end.specs.declared.State.{State}
 use Rattle.quick_end.specs.declared.Progress.{Progress}
 use Rattle.quick_end.specs.declared.End.{End}
-use Rattle.quick_step.specs.declared.StepAnswer.{StepAnswer}
-use Rattle.quick_step.specs.declared.StepAnswer.TheVariants.{Send, Nothing, Refused}
-use Rattle.quick_step.specs.declared.Stepped.{Stepped}
+use Rattle.refusal.specs.Numbers.{number}
+use Rattle.quick_step.specs.declared.StepAnswer.{StepAnswer as Given}
+use Rattle.quick_step.specs.declared.StepAnswer.TheVariants as given
+use Rattle.quick_step.specs.declared.Stepped.{Stepped as Step}
+
+-- a message to send of so many bytes, nothing to send, or a refusal
+pub data StepAnswer : Type 0 where
+  Send : (size : ℕ) → StepAnswer
+  Nothing : StepAnswer
+  Refused : (number : ℕ) → StepAnswer
+
+pub record Stepped : Type 0 where
+  pub end : End
+  pub answer : StepAnswer
+
+abbrev pub answer_told : (answer : Given) → StepAnswer
+answer_told (given.Send size) = Send size
+answer_told given.Nothing = Nothing
+answer_told (given.Refused refusal) = Refused (number refusal)
+
+abbrev pub stepped_told : (step : Step) → Stepped
+stepped_told step = record { end = step.end; answer = answer_told step.answer }
 
 pub record After : Type 0 where
   pub step : Stepped

@@ -5,14 +5,15 @@ ghost use Rattle.std.specs.Prelude.{◌≡◌, min};
 ghost use Rattle.quick_step.specs.Steps.{small, kept, with_state};
 
 use quick_end::{End, Progress, State};
+use refusal::Refusal;
 use wire_read::front;
 
-// A message to send of so many bytes, nothing to send, or a refusal.
-#[derive(Clone, Copy)]
+// A message to send of so many bytes, nothing to send, or a refusal: document 01 names this form, one enum with data.
+#[derive(Clone, Copy, Debug, PartialEq, Eq)]
 pub enum StepAnswer {
     Send(u16),
     Nothing,
-    Refused(u16),
+    Refused(Refusal),
 }
 
 #[derive(Clone, Copy)]
@@ -32,7 +33,7 @@ pub fn small(sent: &[u8], got: &[u8], output: &[u8]) -> bool
 pub fn kept_size(size: u16) -> u16
     ensures { result ≡ min size 2048 }
 {
-    if size < 2048 { size } else { 2048 }
+    size.min(2048)
 }
 
 // The message that a kept buffer holds.
@@ -46,13 +47,5 @@ pub fn kept(size: u16, buffer: &[u8]) -> &[u8]
 pub fn with_state(state: State, progress: Progress) -> Progress
     ensures { result ≡ with_state state progress }
 {
-    let agreed = progress.agreed;
-    Progress {
-        state,
-        sends: progress.sends,
-        id: progress.id,
-        sentsize: progress.sentsize,
-        gotsize: progress.gotsize,
-        agreed,
-    }
+    Progress { state, ..progress }
 }

@@ -2,12 +2,14 @@
 #![tactic(auto)]
 
 ghost use Rattle.std.specs.Prelude.{◌≡◌};
+ghost use Rattle.refusal.specs.Numbers.{coded};
 ghost use Rattle.quick_taken.specs.Taken.{proposal_taken, set_taken, replied_set, offered_set, identities_same, taken_code, agreed_two};
 
 use policy_choice::choose::body_at;
 use quick_agreed::{spis_of, transforms_in};
 use quick_end::Agreed;
 use quick_shape::shape_of;
+use refusal::Refusal;
 use sa_fields::{proposal_number, protocol, transform_count};
 use sa_items::{proposal, proposal_count, transform};
 use sa_sets::{set, set_count, set_numbered};
@@ -53,18 +55,18 @@ fn identities_same(found: u8, sent: &[u8], m: &[u8]) -> bool
     (found == shape_of(sent)) & ((found == 3) | first & second)
 }
 
-// Whether message 2, of the shape that was found, is taken from the offer that was sent: 0, or the refusal.
-pub fn taken_code(found: u8, sent: &[u8], m: &[u8]) -> u16
-    ensures { result ≡ taken_code found sent.now m.now }
+// Whether message 2, of the shape that was found, is taken from the offer that was sent.
+pub fn taken_code(found: u8, sent: &[u8], m: &[u8]) -> Result<(), Refusal>
+    ensures { coded result ≡ taken_code found sent.now m.now }
 {
     let one = set_count(body_at(1, m)) == 1;
     if !(one & set_taken(replied_set(m), offered_set(sent, m))) {
-        return 15;
+        return Err(Refusal::BadProposalSyntax);
     }
     if !identities_same(found, sent, m) {
-        return 18;
+        return Err(Refusal::InvalidIdInformation);
     }
-    0
+    Ok(())
 }
 
 // What message 2 agrees on with the message that was sent.

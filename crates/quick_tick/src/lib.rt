@@ -2,69 +2,57 @@
 #![tactic(auto)]
 
 ghost use Rattle.std.specs.Prelude.{◌≡◌, ◌<◌};
-ghost use Rattle.quick_step.specs.Steps.{after_step};
+ghost use Rattle.refusal.specs.Numbers.{coded};
+ghost use Rattle.quick_step.specs.Steps.{after_step, stepped_told};
 ghost use Rattle.quick_tick.specs.Tick.{tick_code, one_more, is_open, ticked};
 
 use quick_end::{End, Progress, State, is_given_up, is_idle};
 use quick_step::{StepAnswer, Stepped, kept, kept_size, small, with_state};
+use refusal::Refusal;
 use wire_write::put_bytes;
 
 fn is_open(state: State) -> bool
     ensures { result ≡ is_open state }
 {
-    match state {
-        State::Open => true,
-        State::Idle => false,
-        State::Sent => false,
-        State::Half => false,
-        State::GivenUp => false,
-    }
+    state == State::Open
 }
 
-fn tick_code(state: State, tight: bool) -> u16
-    ensures { result ≡ tick_code state tight }
+fn tick_code(state: State, tight: bool) -> Result<(), Refusal>
+    ensures { coded result ≡ tick_code state tight }
 {
     if tight {
-        return 8192;
+        return Err(Refusal::BufferTooSmall);
     }
     if is_given_up(state) {
-        return 8196;
+        return Err(Refusal::GivenUp);
     }
     if is_idle(state) {
-        return 8195;
+        return Err(Refusal::CallUnexpected);
     }
-    0
+    Ok(())
 }
 
 fn one_more(progress: Progress) -> Progress
     requires { progress.sends < 4 }
     ensures { result ≡ one_more progress }
 {
-    let agreed = progress.agreed;
-    let state = progress.state;
     Progress {
-        state,
         sends: progress.sends + 1,
-        id: progress.id,
-        sentsize: progress.sentsize,
-        gotsize: progress.gotsize,
-        agreed,
+        ..progress
     }
 }
 
 // Time has passed. Only `output` is written to.
 pub fn tick(end: End, sent: &[u8], got: &[u8], output: &mut [u8]) -> Stepped
     ensures { ticked end sent.now got.now output.old ≡
-        after_step result sent.now got.now output.new }
+        after_step (stepped_told result) sent.now got.now output.new }
 {
-    let own = end.own;
     let progress = end.progress;
     let state = progress.state;
-    let code = tick_code(state, small(sent, got, output));
-    if code != 0 {
+    if let Err(refusal) = tick_code(state, small(sent, got, output)) {
         return Stepped {
             end,
-            answer: StepAnswer::Refused(code),
+            answer: StepAnswer::Refused(refusal),
         };
     }
     if is_open(state) {
@@ -77,16 +65,16 @@ pub fn tick(end: End, sent: &[u8], got: &[u8], output: &mut [u8]) -> Stepped
         put_bytes(output, 0, kept(progress.sentsize, sent));
         return Stepped {
             end: End {
-                own,
                 progress: one_more(progress),
+                ..end
             },
             answer: StepAnswer::Send(kept_size(progress.sentsize)),
         };
     }
     Stepped {
         end: End {
-            own,
             progress: with_state(State::GivenUp, progress),
+            ..end
         },
         answer: StepAnswer::Nothing,
     }

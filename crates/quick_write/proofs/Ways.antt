@@ -7,6 +7,7 @@ use native.Mathlib.Omega.{arith}
 use lib.ListN.{length, take, drop, replicate, length-take, length-append, length-drop, length-replicate}
 use lib.Dec.{ltb, eqb}
 use borrow.Author.Tests.{eq-eqb, ne_eqb, le-leb, lt-leb, ltb-false}
+use Rattle.std.specs.Prelude.{None, Some}
 use Rattle.wire_write.specs.Put.{bytes_of, head, headed, paste, put}
 use Rattle.wire_read.proofs.Tests.{by_test, neither}
 use Rattle.wire_write.proofs.Laws.{length_bytes_of, length_headed, paste-append, paste_before, put-size, put-after, put_before}
@@ -18,7 +19,6 @@ use Rattle.policy_choice.specs.declared.Transforms.{Transforms}
 use Rattle.quick_write.specs.Messages.{book_of, nonce_of, fixed, authentication, attributes, transform_one, line_proposal, line_set, next_set, line_sets, lines, offer_of, hash, padding, padded, header, message_of, around, nonce_and_identities, proposals_of, longer, too_long, written, longer_into, message_three}
 use Rattle.quick_end.specs.declared.Own.{Own}
 use Rattle.quick_write.specs.declared.Proposals.{Proposals}
-use Rattle.quick_write.specs.declared.Written.TheVariants.{Size, TooLong}
 use Rattle.quick_write.specs.declared.Proposals.TheVariants.{Offer, Reply}
 
 -- ---- the header
@@ -183,14 +183,6 @@ module _ (l : List ℕ) (at n i ah esp : ℕ) (book : List ℕ) where
 -- ---- the SA payload
 
 module _ (n : ℕ) (book : List ℕ) where
-  pub lines-few : n < 8 → n ≡ quick_count book → n ≡ lines book
-  unfolding lines
-  lines-few h e = rw (← e) (omega arith)
-
-  pub lines-full : 8 ≤ n → n ≡ quick_count book → 8 ≡ lines book
-  unfolding lines
-  lines-full h e = rw (← e) (omega arith)
-
   pub lines-most : n ≡ lines book → n ≤ 8
   unfolding lines
   lines-most e = omega arith
@@ -370,11 +362,11 @@ module _ (set first second : List ℕ) (fit : (ltb 4096 (length set) || ltb 4096
 
 module _ (l : List ℕ) (own : Own) (id : ℕ) (proposals : Proposals) (set first second : List ℕ) where
   pub longer-refused : (ltb 4096 (length set) || ltb 4096 (length first) || ltb 4096 (length second)) ≡ true →
-      longer_into l own id proposals set first second ≡ (TooLong, l)
+      longer_into l own id proposals set first second ≡ (None, l)
   unfolding longer_into too_long
   longer-refused h = rw h
 
   pub longer_passed : (ltb 4096 (length set) || ltb 4096 (length first) || ltb 4096 (length second)) ≡ false → (n : ℕ) (b : List ℕ) →
-      put l 0 (longer own id (proposals_of own proposals set) first second) ≡ (n, b) → longer_into l own id proposals set first second ≡ (Size n, b)
+      put l 0 (longer own id (proposals_of own proposals set) first second) ≡ (n, b) → longer_into l own id proposals set first second ≡ (Some n, b)
   unfolding longer_into too_long
   longer_passed h n b e = rw h (ap written e)

@@ -1,5 +1,5 @@
 -- The three messages that the ends write, document 01, "Quick mode ends".
-use Rattle.std.specs.Prelude.{ℕ, zero, suc, min, ◌+◌, ◌-◌, ◌%◌, [], ◌∷◌, ◌++◌, Bool, ◌||◌, ◌&&◌, length, take, replicate, ltb, leb, eqb}
+use Rattle.std.specs.Prelude.{ℕ, zero, suc, min, ◌+◌, ◌-◌, ◌%◌, [], ◌∷◌, ◌++◌, Bool, ◌||◌, ◌&&◌, length, take, replicate, Option, None, Some, ltb, leb, eqb}
 use Rattle.wire_read.specs.Wire.{Bytes}
 use Rattle.wire_write.specs.Put.{bytes_of, headed, paste, put}
 use Rattle.wire_read.specs.Tests.{if◌then◌otherwise◌}
@@ -10,8 +10,6 @@ use Rattle.policy_choice.specs.declared.Transforms.{Transforms}
 use Rattle.quick_end.specs.declared.Own.{Own}
 use Rattle.quick_write.specs.declared.Proposals.{Proposals}
 use Rattle.quick_write.specs.declared.Proposals.TheVariants.{Offer, Reply}
-use Rattle.quick_write.specs.declared.Written.{Written}
-use Rattle.quick_write.specs.declared.Written.TheVariants.{Size, TooLong}
 
 -- the book and the nonce that an end was given
 unfoldable pub book_of : (own : Own) → Bytes
@@ -105,12 +103,12 @@ proposals_of own (Reply transforms) set = set_reply own.ah own.esp transforms se
 unfoldable pub too_long : (set first second : Bytes) → Bool
 too_long set first second = ltb 4096 (length set) || ltb 4096 (length first) || ltb 4096 (length second)
 
-abbrev pub written : (put : ℕ × Bytes) → Written × Bytes
-written put = (Size put.0, put.1)
+abbrev pub written : (put : ℕ × Bytes) → Option ℕ × Bytes
+written put = (Some put.0, put.1)
 
-unfoldable pub longer_into : (buffer : Bytes) (own : Own) (id : ℕ) (proposals : Proposals) (set first second : Bytes) → Written × Bytes
+unfoldable pub longer_into : (buffer : Bytes) (own : Own) (id : ℕ) (proposals : Proposals) (set first second : Bytes) → Option ℕ × Bytes
 longer_into buffer own id proposals set first second =
-    if too_long set first second then (TooLong, buffer)
+    if too_long set first second then (None, buffer)
     otherwise written (put buffer 0 (longer own id (proposals_of own proposals set) first second))
 
 unfoldable pub message_one : (own : Own) (id : ℕ) (first second : Bytes) → Bytes

@@ -8,25 +8,19 @@ ghost use Rattle.quick_write.specs.Messages.{padding, line_proposal, line_set, n
 
 use policy_choice::Transforms;
 use policy_lines::{quick_count, quick_mode, quick_protocols, quick_seconds};
-use policy_reply::{put_proposal, put_reply};
+use policy_reply::{OwnSpis, put_proposal, put_reply};
 use policy_suits::quick_id;
 use quick_end::Own;
 use sa_fields::ProposalNumber;
 use wire_read::front;
 use wire_write::{put_be32, put_be64, put_bytes, put_head, put_headed};
 
-// What a longer message proposes: the offer by the own book, or a reply with these transforms.
+// What a longer message proposes: the offer by the own book, or a reply with these transforms. These are two kinds of message, and
+// none of them the absence of the other.
 #[derive(Clone, Copy)]
 pub enum Proposals {
     Offer,
     Reply(Transforms),
-}
-
-// What writing a longer message answers: how long it is, or that a part is too long for one and nothing is written.
-#[derive(Clone, Copy)]
-pub enum Written {
-    Size(u16),
-    TooLong,
 }
 
 // How many zero bytes a message's payloads are padded with.
@@ -60,6 +54,7 @@ fn put_line_proposal(
     requires { i ≤ 8 }
     ensures { put buffer.old at (line_proposal ah esp next protocol i book.now) ≡ (result, buffer.new) }
 {
+    let own = OwnSpis { ah, esp };
     let number = ProposalNumber(i + 1);
     let id = quick_id(protocol);
     let mode = quick_mode(i, book);
@@ -70,13 +65,13 @@ fn put_line_proposal(
         let t = [
             0, 0, 0, 0, 1, id, 0, 0, 0x80, 4, 0, mode, 0x80, 1, 0, 1, 0x80, 2, high, low,
         ];
-        return put_proposal(buffer, at, ah, esp, next, number, protocol, &t) as u32;
+        return put_proposal(buffer, at, own, next, number, protocol, &t) as u32;
     }
     let t = [
         0, 0, 0, 0, 1, id, 0, 0, 0x80, 4, 0, mode, 0x80, 5, 0, 20, 0x80, 1, 0, 1, 0x80, 2, high,
         low,
     ];
-    put_proposal(buffer, at, ah, esp, next, number, protocol, &t) as u32
+    put_proposal(buffer, at, own, next, number, protocol, &t) as u32
 }
 
 // Writes the set for quick line i.
@@ -113,8 +108,7 @@ fn put_line_sets(buffer: &mut [u8], at: u32, n: u8, i: u8, ah: u32, esp: u32, bo
 pub fn lines(book: &[u8]) -> u8
     ensures { result ≡ lines book.now }
 {
-    let count = quick_count(book);
-    if count < 8 { count } else { 8 }
+    quick_count(book).min(8)
 }
 
 // Writes the SA payload of message 1 at its place.
@@ -136,7 +130,11 @@ fn put_sa(buffer: &mut [u8], own: Own, proposals: Proposals, set: &[u8]) -> u32
     match proposals {
         Proposals::Offer => put_offer(buffer, own),
         Proposals::Reply(transforms) => {
-            put_reply(buffer, 64, 10, own.ah, own.esp, transforms, set) as u32
+            let spis = OwnSpis {
+                ah: own.ah,
+                esp: own.esp,
+            };
+            put_reply(buffer, 64, 10, spis, transforms, set) as u32
         }
     }
 }
@@ -144,11 +142,7 @@ fn put_sa(buffer: &mut [u8], own: Own, proposals: Proposals, set: &[u8]) -> u32
 fn nonce_size(own: Own) -> usize
     ensures { result ≡ min own.noncesize 256 }
 {
-    if own.noncesize < 256 {
-        own.noncesize as usize
-    } else {
-        256
-    }
+    own.noncesize.min(256) as usize
 }
 
 // Writes the own nonce, and the identities where there are any.
@@ -198,7 +192,8 @@ fn put_fitting(
     put_around(buffer, own, id, 36 + sa + rest) as u16
 }
 
-// Writes a message of the longer shape; says how long it is. A set or an identity over 4,096 bytes is too long.
+// Writes a message of the longer shape; says how long it is. A set or an identity over 4,096 bytes is too long for one, and nothing is
+// written.
 pub fn put_longer(
     buffer: &mut [u8],
     own: Own,
@@ -207,14 +202,14 @@ pub fn put_longer(
     set: &[u8],
     first: &[u8],
     second: &[u8],
-) -> Written
+) -> Option<u16>
     ensures { longer_into buffer.old own id proposals set.now first.now second.now
         ≡ (result, buffer.new) }
 {
     if (4096 < set.len()) | (4096 < first.len()) | (4096 < second.len()) {
-        return Written::TooLong;
+        return None;
     }
-    Written::Size(put_fitting(buffer, own, id, proposals, set, first, second))
+    Some(put_fitting(buffer, own, id, proposals, set, first, second))
 }
 
 // Writes message 3.

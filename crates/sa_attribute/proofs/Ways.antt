@@ -5,7 +5,6 @@ use mathlib.Core.List.{List, []}
 use mathlib.Core.Bool.{Bool, true, false}
 use native.Mathlib.Omega.{arith}
 use lib.ListN.{length, get_or, take, drop, length-drop}
-use lib.Seq.{drop-drop}
 use lib.Dec.{ltb, eqb}
 use borrow.Author.Tests.{eq-eqb, ne_eqb, lt-ltb, le-ltb}
 use Rattle.wire_read.specs.Wire.{number_at}
@@ -63,33 +62,28 @@ unfolding find
 find_none zero t s h = refl
 find_none (suc k) t s h = rw (lt-ltb (length s) 4 h)
 
+-- what is no longer than what lies from a place on does not run past the end
 pub search_within : (at n : ℕ) (s here : List ℕ) → here ≡ drop at s → 4 ≤ length here → n ≤ length here → at + n ≤ length s
 search_within at n s here eh long h = omega (arith, ap length eh ∙ length-drop at s)
 
--- at a place in s, from which on the search goes the way it goes from the start
-module _ (left t at : ℕ) (s goal : List ℕ) (so_far : find left t (drop at s) ≡ goal) where
-  module _ (empty : List ℕ) (e : empty ≡ take 0 s) where
-    pub search_out : left ≡ 0 → empty ≡ goal
-    unfolding find
-    search_out z = e ∙ (rw z at so_far)
+-- after so many turns of at most `most`, what is left, from which on the search goes the way it goes from the start
+module _ (most counter t : ℕ) (rest goal : List ℕ) (so_far : find (most - counter) t rest ≡ goal) where
+  pub search_out : most ≤ counter → [] ≡ goal
+  unfolding find
+  search_out h = let none : most - counter ≡ 0 = omega arith in rw none at so_far
 
-    pub search_end : (here : List ℕ) → here ≡ drop at s → length here < 4 → empty ≡ goal
-    search_end here eh h = e ∙ find_none left t (drop at s) (rw (← eh) h) ∙ so_far
+  pub search_end : length rest < 4 → [] ≡ goal
+  search_end h = find_none (most - counter) t rest h ∙ so_far
 
-  module _ (may : left ≡ 0 → ⊥) (here : List ℕ) (eh : here ≡ drop at s) (long : 4 ≤ length here) (n u : ℕ) (en : n ≡ attribute_size here)
-      (eu : u ≡ attribute_type here) where
-    step : goal ≡ (if eqb u t then take n here otherwise find (left - 1) t (drop n here))
-    step = sym so_far ∙ find-step left t (drop at s) may ∙ rw (← eh, le-ltb (length here) 4 long, ← en, ← eu)
+  module _ (turn : counter < most) (long : 4 ≤ length rest) (u : ℕ) (eu : u ≡ attribute_type rest) where
+    step : goal ≡ (if eqb u t then take (attribute_size rest) rest otherwise find (most - counter - 1) t (drop (attribute_size rest) rest))
+    step = sym so_far ∙ find-step (most - counter) t rest (λ z. omega arith) ∙ rw (le-ltb (length rest) 4 long, ← eu)
 
-    pub search_here : u ≡ t → (r : List ℕ) → r ≡ take n here → r ≡ goal
-    search_here h r e = rw (step, eq-eqb u t h) e
+    pub search_here : u ≡ t → (n : ℕ) → n ≡ attribute_size rest → (r : List ℕ) → r ≡ take n rest → r ≡ goal
+    search_here h n en r e = rw (step, eq-eqb u t h, ← en) e
 
-    module _ (other : u ≡ t → ⊥) where
-      on : find (left - 1) t (drop n here) ≡ goal
-      on = rw (step, ne_eqb u t other)
-
-      pub search_past : length here < n → (empty : List ℕ) → empty ≡ take 0 s → empty ≡ goal
-      search_past h empty e = e ∙ find_none (left - 1) t (drop n here) (omega (arith, length-drop n here)) ∙ on
-
-      pub search_on : find (left - 1) t (drop (at + n) s) ≡ goal
-      search_on = rw (← drop-drop n at s, ← eh) on
+    pub search_on : (u ≡ t → ⊥) → (x : List ℕ) → x ≡ after_attribute rest → find (most - (counter + 1)) t x ≡ goal
+    unfolding after_attribute
+    search_on other x e =
+        let left : most - (counter + 1) ≡ most - counter - 1 = omega arith in
+        rw (left, e) (sym (step ∙ rw (ne_eqb u t other)))

@@ -1,10 +1,10 @@
 // The attributes of a transform: where they lie and what they say. A slice begins at an attribute.
 #![tactic(auto)]
 
-ghost use Rattle.std.specs.Prelude.{◌≡◌};
-ghost use Rattle.wire_read.specs.Parts.{parts};
+ghost use Rattle.std.specs.Prelude.{◌≡◌, take};
 ghost use Rattle.sa_attribute.specs.Attributes.{sent_fixed, attribute_type, attribute_size, after_attribute, find, attribute, value, attribute_count};
 
+use wire_read::parted::{Parted, parts};
 use wire_read::{after, be16, be32, byte, front};
 
 // Whether the attribute has its value in its own four bytes.
@@ -31,33 +31,37 @@ pub fn attribute_size(s: &[u8]) -> usize
     }
 }
 
-fn after_attribute(s: &[u8]) -> &[u8]
-    ensures { result.now ≡ after_attribute s.now }
-{
-    after(s, attribute_size(s))
+// Attributes are parts of the size that they say.
+struct Attributes;
+
+impl Parted for Attributes {
+    ghost first_part = { λ s. take (attribute_size s) s };
+
+    ghost after_part = { after_attribute };
+
+    fn first_part(s: &[u8]) -> &[u8] {
+        front(s, attribute_size(s))
+    }
+
+    fn after_part(s: &[u8]) -> &[u8] {
+        after(s, attribute_size(s))
+    }
 }
 
 fn find(most: u8, attributetype: u16, s: &[u8]) -> &[u8]
     ensures { result.now ≡ find most attributetype s.now }
 {
-    let mut left = most;
-    let mut at: usize = 0;
-    while left != 0 {
-        let here = after(s, at);
-        if here.len() < 4 {
-            return front(s, 0);
+    let mut rest = s;
+    for _ in 0..most {
+        if rest.len() < 4 {
+            return &[];
         }
-        let n = attribute_size(here);
-        if attribute_type(here) == attributetype {
-            return front(here, n);
+        if attribute_type(rest) == attributetype {
+            return front(rest, attribute_size(rest));
         }
-        if here.len() < n {
-            return front(s, 0);
-        }
-        at += n;
-        left -= 1;
+        rest = Attributes::after_part(rest);
     }
-    front(s, 0)
+    &[]
 }
 
 // The attribute of a type in a transform's attributes; no bytes where there is none.
@@ -84,21 +88,9 @@ pub fn value(a: &[u8]) -> u32
     }
 }
 
-fn attributes(left: u8, s: &[u8]) -> u8
-    ensures { result ≡ parts after_attribute left s.now }
-{
-    if left == 0 {
-        return 0;
-    }
-    if s.len() == 0 {
-        return 0;
-    }
-    1 + attributes(left - 1, after_attribute(s))
-}
-
 // How many attributes a transform has.
 pub fn attribute_count(s: &[u8]) -> u8
     ensures { result ≡ attribute_count s.now }
 {
-    attributes(16, s)
+    parts::<Attributes>(16, s)
 }

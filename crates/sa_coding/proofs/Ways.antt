@@ -117,22 +117,27 @@ unfolding repeats after_attribute
 repeats-step zero exchange before s h = absurd (h refl)
 repeats-step (suc left) exchange before s h = let i : suc left - 1 ≡ left = omega arith in rw i
 
-module _ (left exchange : ℕ) (before s : List ℕ) where
-  pub repeats-out : left ≡ 0 → false ≡ repeats left exchange before s
+-- where the loop stands: it has i behind it, of n at most, and these bytes before it
+module _ (n i exchange : ℕ) (rest s : List ℕ) {goal : Bool} (so_far : repeats (n - i) exchange rest s ≡ goal) where
+  pub repeats-out : n ≤ i → false ≡ goal
   unfolding repeats
-  repeats-out z = rw z
+  repeats-out h = let none : n - i ≡ 0 = omega arith in rw none at so_far
 
-  module _ (may : left ≡ 0 → ⊥) where
-    pub repeats-end : length before < 4 → false ≡ repeats left exchange before s
-    repeats-end h = rw (repeats-step left exchange before s may, lt-ltb (length before) 4 h)
+  module _ (may : i < n) where
+    step : repeats (n - i) exchange rest s ≡ (if ltb (length rest) 4 then false otherwise alike exchange rest s || repeats (n - i - 1) exchange (drop (attribute_size rest) rest) s)
+    step = repeats-step (n - i) exchange rest s (λ z. omega (arith, may, z))
 
-    module _ (long : 4 ≤ length before) (b : Bool) (eb : b ≡ alike exchange before s) where
-      pub repeats-here : b ≡ true → true ≡ repeats left exchange before s
-      repeats-here h = rw (repeats-step left exchange before s may, le-ltb (length before) 4 long, ← eb, h)
+    pub repeats-end : length rest < 4 → false ≡ goal
+    repeats-end h = sym (rw (lt-ltb (length rest) 4 h) at step) ∙ so_far
 
-      pub repeats-on : b ≡ false → (n : ℕ) (rest : List ℕ) → n ≡ attribute_size before → rest ≡ drop n before → (r : Bool) →
-          r ≡ repeats (left - 1) exchange rest s → r ≡ repeats left exchange before s
-      repeats-on h n rest en er r e = rw (repeats-step left exchange before s may, le-ltb (length before) 4 long, ← eb, h, ← en, ← er) e
+    module _ (long : 4 ≤ length rest) (b : Bool) (eb : b ≡ alike exchange rest s) where
+      pub repeats-here : b ≡ true → true ≡ goal
+      repeats-here h = sym (rw (le-ltb (length rest) 4 long, ← eb, h) at step) ∙ so_far
+
+      pub repeats-on : b ≡ false → (size : ℕ) (next : List ℕ) → size ≡ attribute_size rest → next ≡ drop size rest → repeats (n - (i + 1)) exchange next s ≡ goal
+      repeats-on h size next es en =
+          let fewer : n - i - 1 ≡ n - (i + 1) = omega arith in
+          rw (en, es, ← fewer) (sym (rw (le-ltb (length rest) 4 long, ← eb, h) at step) ∙ so_far)
 
 module _ (exchange : ℕ) (behind : Bool) (before s : List ℕ) (t : ℕ) (et : t ≡ attribute_type s) (d : Bool) (ed : d ≡ is_duration exchange t) where
   pub stands_duration : d ≡ true → not behind ≡ stands_wrong exchange behind before s

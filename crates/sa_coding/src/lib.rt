@@ -1,11 +1,14 @@
-// How the attributes of a transform are to be coded. A slice begins at an attribute.
+// How the attributes of a transform are to be coded. A slice begins at an attribute. Exchange and type are numbers, since every function
+// answers for any.
 #![tactic(auto)]
 
 ghost use Rattle.std.specs.Prelude.{◌≡◌, ◌-◌, get_or, eqb};
+ghost use Rattle.refusal.specs.Numbers.{coded};
 ghost use Rattle.wire_read.specs.Wire.{number_at};
 ghost use Rattle.wire_read.specs.Tests.{if◌then◌otherwise◌};
 ghost use Rattle.sa_coding.specs.Coding.{out_of_bounds, must_be_fixed, fixed_wrong, is_duration, duration_wrong, is_life_type, value_length, from_value, whole_value, alike, repeats, stands_wrong, attribute_code, attributes_code};
 
+use refusal::Refusal;
 use sa_attribute::{attribute_size, attribute_type, sent_fixed};
 use wire_read::{after, be16, byte, front};
 
@@ -76,12 +79,6 @@ fn last_byte(n: u16, s: &[u8]) -> u8
     if n == 0 { 0 } else { byte(s, (n - 1) as usize) }
 }
 
-fn one_less(n: u16) -> u16
-    ensures { result ≡ n - 1 }
-{
-    if n == 0 { 0 } else { n - 1 }
-}
-
 // Whether the first n bytes of a and the first m of b spell the same number: compared from the last on, so that a value
 // of any length gets its answer.
 fn same_number(n: u16, a: &[u8], m: u16, b: &[u8]) -> bool
@@ -89,12 +86,13 @@ fn same_number(n: u16, a: &[u8], m: u16, b: &[u8]) -> bool
 {
     let mut p = n;
     let mut q = m;
+    // Two places fall, the longer value's further: an iterator over one of them would not say it plainer.
     while (p != 0) | (q != 0) {
         if last_byte(p, a) != last_byte(q, b) {
             return false;
         }
-        p = one_less(p);
-        q = one_less(q);
+        p = p.saturating_sub(1);
+        q = q.saturating_sub(1);
     }
     true
 }
@@ -123,20 +121,21 @@ fn alike(exchange: u8, a: &[u8], s: &[u8]) -> bool
     same_value(a, s)
 }
 
-// Whether one of the first `left` attributes before it is alike.
-fn repeats(left: u8, exchange: u8, before: &[u8], s: &[u8]) -> bool
-    ensures { result ≡ repeats left exchange before.now s.now }
+// Whether one of the first `most` attributes before it is alike.
+fn repeats(most: u8, exchange: u8, before: &[u8], s: &[u8]) -> bool
+    ensures { result ≡ repeats most exchange before.now s.now }
 {
-    if left == 0 {
-        return false;
+    let mut rest = before;
+    for _passed in 0..most {
+        if rest.len() < 4 {
+            return false;
+        }
+        if alike(exchange, rest, s) {
+            return true;
+        }
+        rest = after(rest, attribute_size(rest));
     }
-    if before.len() < 4 {
-        return false;
-    }
-    if alike(exchange, before, s) {
-        return true;
-    }
-    repeats(left - 1, exchange, after(before, attribute_size(before)), s)
+    false
 }
 
 fn stands_wrong(exchange: u8, behindlifetype: bool, before: &[u8], s: &[u8]) -> bool
@@ -148,40 +147,51 @@ fn stands_wrong(exchange: u8, behindlifetype: bool, before: &[u8], s: &[u8]) -> 
     behindlifetype | repeats(16, exchange, before, s)
 }
 
-fn attribute_code(exchange: u8, behindlifetype: bool, before: &[u8], s: &[u8]) -> u16
-    ensures { result ≡ attribute_code exchange behindlifetype before.now s.now }
+fn attribute_code(
+    exchange: u8,
+    behindlifetype: bool,
+    before: &[u8],
+    s: &[u8],
+) -> Result<(), Refusal>
+    ensures { coded result ≡ attribute_code exchange behindlifetype before.now s.now }
 {
     if out_of_bounds(s) {
-        return 15;
+        return Err(Refusal::BadProposalSyntax);
     }
     if stands_wrong(exchange, behindlifetype, before, s) {
-        return 15;
+        return Err(Refusal::BadProposalSyntax);
     }
     if fixed_wrong(exchange, s) {
-        return 13;
+        return Err(Refusal::AttributesNotSupported);
     }
-    if duration_wrong(exchange, s) { 13 } else { 0 }
+    if duration_wrong(exchange, s) {
+        Err(Refusal::AttributesNotSupported)
+    } else {
+        Ok(())
+    }
 }
 
 // 0 where a transform's attributes are lawful in the exchange, else the refusal.
-pub fn attributes_code(exchange: u8, s: &[u8]) -> u16
-    ensures { result ≡ attributes_code exchange s.now }
+pub fn attributes_code(exchange: u8, s: &[u8]) -> Result<(), Refusal>
+    ensures { coded result ≡ attributes_code exchange s.now }
 {
     let mut left: u8 = 16;
     let mut at: usize = 0;
     let mut behindlifetype = false;
+    // An attribute is judged by what lies before it too, so a place goes through the bytes and not a part of them.
     while at < s.len() {
         if left == 0 {
-            return 15;
+            return Err(Refusal::BadProposalSyntax);
         }
         let here = after(s, at);
-        let code = attribute_code(exchange, behindlifetype, front(s, at), here);
-        if code != 0 {
-            return code;
-        }
+        attribute_code(exchange, behindlifetype, front(s, at), here)?;
         behindlifetype = is_life_type(exchange, attribute_type(here));
         at += attribute_size(here);
         left -= 1;
     }
-    if behindlifetype { 15 } else { 0 }
+    if behindlifetype {
+        Err(Refusal::BadProposalSyntax)
+    } else {
+        Ok(())
+    }
 }

@@ -7,10 +7,10 @@ ghost use Rattle.sa_fields.specs.Fields.{proposal_number, protocol, spi, transfo
 use wire_read::{after, byte, front};
 
 // Proposal numbers and transform numbers are separate countings.
-#[derive(Clone, Copy)]
+#[derive(Clone, Copy, Debug, PartialEq, Eq)]
 pub struct ProposalNumber(pub u8);
 
-#[derive(Clone, Copy)]
+#[derive(Clone, Copy, Debug, PartialEq, Eq)]
 pub struct TransformNumber(pub u8);
 
 pub fn proposal_number(p: &[u8]) -> ProposalNumber

@@ -8,10 +8,9 @@ use lib.ListN.{length, get_or, take, length-take}
 use lib.Seq.{get_or-take}
 use lib.Dec.{eqb}
 use borrow.Author.Tests.{eqb-true}
-use Rattle.wire_read.specs.Parts.{skip, parts}
+use Rattle.wire_read.specs.Parts.{skip, parts, numbered}
 use Rattle.wire_read.proofs.Tests.{by_test}
 use Rattle.wire_read.proofs.Parts.{parts_more}
-use Rattle.sa_items.specs.Items.{numbered}
 
 pub record Found (first rest : List ℕ → List ℕ) (left number : ℕ) (s : List ℕ) : Type 0 where
   pub place : ℕ

@@ -9,7 +9,7 @@ use lib.Seq.{take-append_seam, drop-append_seam}
 use lib.Dec.{eqb}
 use borrow.Author.Tests.{eq-eqb, ne_eqb}
 use Rattle.wire_read.specs.Wire.{number_at}
-use Rattle.wire_read.specs.Parts.{skip, parts}
+use Rattle.wire_read.specs.Parts.{skip, parts, numbered}
 use Rattle.wire_read.proofs.Tests.{by_test}
 use Rattle.wire_read.proofs.Laws.{number_append, take_within, drop-within}
 use Rattle.wire_read.proofs.Parts.{parts_none, parts_more}
@@ -19,7 +19,7 @@ use Rattle.sa_transforms.specs.Transforms.{transforms_code}
 use Rattle.sa_transforms.proofs.Laws.{LawfulTransform, first-transform, after-transform}
 use Rattle.sa_proposals.specs.Proposals.{transform_bytes}
 use Rattle.sa_proposals.proofs.Laws.{Item, Rising, end, on}
-use Rattle.sa_items.specs.Items.{first_item, after_item, numbered, proposal, proposal_count, transform, transform_numbered}
+use Rattle.sa_items.specs.Items.{first_item, after_item, proposal, proposal_count, transform, transform_numbered}
 
 -- ---- proposals
 

@@ -1,4 +1,4 @@
--- A law for each way out of the functions on items, and of a function that looks for the part with a number.
+-- A law for each way out of the functions on items.
 use Prim.Native.Nat.{ℕ, zero, suc, ◌-◌}
 use mathlib.Core.Path.{◌≡◌, refl}
 use mathlib.Core.List.{List}
@@ -8,10 +8,10 @@ use lib.Dec.{eqb}
 use borrow.Author.Tests.{eq-eqb, ne_eqb}
 use Rattle.wire_read.specs.Tests.{if◌then◌otherwise◌}
 use Rattle.wire_read.specs.Wire.{number_at}
-use Rattle.wire_read.specs.Parts.{skip}
+use Rattle.wire_read.specs.Parts.{skip, numbered}
 use Rattle.sa_fields.specs.declared.TransformNumber.{TransformNumber}
 use Rattle.sa_proposals.specs.Proposals.{transform_bytes}
-use Rattle.sa_items.specs.Items.{first_item, after_item, numbered, proposal, transform, transform_numbered}
+use Rattle.sa_items.specs.Items.{first_item, after_item, proposal, transform, transform_numbered}
 
 module _ (s r : List ℕ) (n : ℕ) (en : n ≡ number_at 2 s 2) where
   pub item-first : r ≡ take n s → r ≡ first_item s
@@ -34,25 +34,3 @@ module _ (p all r : List ℕ) (ea : all ≡ transform_bytes p) where
   pub transform-of-number : (number : TransformNumber) → r ≡ numbered first_item after_item 8 number.0 all → r ≡ transform_numbered number p
   unfolding transform_numbered
   transform-of-number number er = rw (← ea) er
-
-module _ (first rest : List ℕ → List ℕ) (left number : ℕ) (s : List ℕ) where
-  numbered_step : (left ≡ 0 → ⊥) →
-      numbered first rest left number s ≡ (if eqb (get_or s 4 0) number then first s otherwise numbered first rest (left - 1) number (rest s))
-  unfolding numbered
-  numbered_step h = stepped left h
-    where
-      stepped : (n : ℕ) → (n ≡ 0 → ⊥) →
-          numbered first rest n number s ≡ (if eqb (get_or s 4 0) number then first s otherwise numbered first rest (n - 1) number (rest s))
-      stepped zero h = absurd (h refl)
-      stepped (suc n) h = let i : suc n - 1 ≡ n = omega arith in rw i
-
-  pub numbered-out : left ≡ 0 → (r : List ℕ) → r ≡ take 0 s → r ≡ numbered first rest left number s
-  unfolding numbered
-  numbered-out z r e = rw z e
-
-  module _ (may : left ≡ 0 → ⊥) (b : ℕ) (eb : b ≡ get_or s 4 0) (r : List ℕ) where
-    pub numbered-here : b ≡ number → r ≡ first s → r ≡ numbered first rest left number s
-    numbered-here h e = rw (numbered_step may, ← eb, eq-eqb b number h) e
-
-    pub numbered-on : (b ≡ number → ⊥) → (t : List ℕ) → t ≡ rest s → r ≡ numbered first rest (left - 1) number t → r ≡ numbered first rest left number s
-    numbered-on h t et e = rw (numbered_step may, ← eb, ne_eqb b number h, ← et) e

@@ -2,7 +2,7 @@
 use Rattle.std.specs.Prelude.{ℕ, zero, suc, [], take, drop, eqb}
 use Rattle.wire_read.specs.Wire.{Bytes, length_field}
 use Rattle.wire_read.specs.Tests.{if◌then◌otherwise◌}
-use Rattle.wire_read.specs.Parts.{skip, parts}
+use Rattle.wire_read.specs.Parts.{skip, parts, numbered}
 use Rattle.sa_fields.specs.Fields.{number_field}
 use Rattle.sa_proposals.specs.Proposals.{transform_bytes}
 use Rattle.sa_fields.specs.declared.TransformNumber.{TransformNumber}
@@ -13,11 +13,6 @@ first_item s = take (length_field s) s
 
 unfoldable pub after_item : (s : Bytes) → Bytes
 after_item s = drop (length_field s) s
-
--- the first part with this number, of at most left: proposals and transforms have their number in byte 4; no bytes where there is none
-unfoldable pub numbered : (first rest : Bytes → Bytes) (left number : ℕ) (s : Bytes) → Bytes
-numbered first rest zero number s = []
-numbered first rest (suc left) number s = if eqb (number_field s) number then first s otherwise numbered first rest left number (rest s)
 
 -- proposal k of a set, counted from 0, and how many it has
 unfoldable pub proposal : (k : ℕ) (set : Bytes) → Bytes

@@ -1,10 +1,12 @@
-// The body of an SA payload: proposals and their transforms, checked in reading order. A slice begins at a proposal, but for
-// `offer_code`, which takes the body.
+// The body of an SA payload: proposals and their transforms, checked in reading order. A slice begins at a
+// proposal, but for `offer_code`, which takes the body. Exchange and protocol are numbers, since every function answers for any.
 #![tactic(auto)]
 
 ghost use Rattle.std.specs.Prelude.{◌≡◌};
-ghost use Rattle.sa_proposals.specs.Proposals.{proposal_wrong, has, with, none, set_before, order_wrong, protocol_wrong, spi_wrong, count_wrong, transform_bytes, inner_code, proposal_code, proposals_code, offer_code};
+ghost use Rattle.refusal.specs.Numbers.{coded};
+ghost use Rattle.sa_proposals.specs.Proposals.{proposal_wrong, has, with, set_before, order_wrong, protocol_wrong, spi_wrong, count_wrong, transform_bytes, inner_code, proposal_code, proposals_code, offer_code};
 
+use refusal::Refusal;
 use sa_transforms::transforms_code;
 use wire_read::{after, be16, be32, byte, front};
 
@@ -28,29 +30,28 @@ fn proposal_wrong(s: &[u8]) -> bool
         | (s.len() < n)
 }
 
-fn has(set: Protocols, protocol: u8) -> bool
-    ensures { result ≡ has set protocol }
-{
-    set.isakmp & (protocol == 1) | set.ah & (protocol == 2) | set.esp & (protocol == 3)
-}
+// A set that has none yet.
+const NONE: Protocols = Protocols {
+    isakmp: false,
+    ah: false,
+    esp: false,
+};
 
-fn with(set: Protocols, protocol: u8) -> Protocols
-    ensures { result ≡ with set protocol }
-{
-    Protocols {
-        isakmp: set.isakmp | (protocol == 1),
-        ah: set.ah | (protocol == 2),
-        esp: set.esp | (protocol == 3),
+impl Protocols {
+    fn has(self, protocol: u8) -> bool
+        ensures { result ≡ has self protocol }
+    {
+        self.isakmp & (protocol == 1) | self.ah & (protocol == 2) | self.esp & (protocol == 3)
     }
-}
 
-fn none() -> Protocols
-    ensures { result ≡ none }
-{
-    Protocols {
-        isakmp: false,
-        ah: false,
-        esp: false,
+    fn with(self, protocol: u8) -> Protocols
+        ensures { result ≡ with self protocol }
+    {
+        Protocols {
+            isakmp: self.isakmp | (protocol == 1),
+            ah: self.ah | (protocol == 2),
+            esp: self.esp | (protocol == 3),
+        }
     }
 }
 
@@ -58,14 +59,14 @@ fn none() -> Protocols
 fn set_before(previous: u8, set: Protocols, number: u8) -> Protocols
     ensures { result ≡ set_before previous set number }
 {
-    if number == previous { set } else { none() }
+    if number == previous { set } else { NONE }
 }
 
 fn order_wrong(previous: u8, set: Protocols, s: &[u8]) -> bool
     ensures { result ≡ order_wrong previous set s.now }
 {
     let number = byte(s, 4);
-    (number < previous) | has(set_before(previous, set, number), byte(s, 5))
+    (number < previous) | set_before(previous, set, number).has(byte(s, 5))
 }
 
 fn protocol_wrong(exchange: u8, protocol: u8) -> bool
@@ -95,73 +96,77 @@ pub fn transform_bytes(s: &[u8]) -> &[u8]
     after(front(s, be16(s, 2) as usize), 8 + byte(s, 6) as usize)
 }
 
-fn inner_code(exchange: u8, s: &[u8]) -> u16
-    ensures { result ≡ inner_code exchange s.now }
+fn inner_code(exchange: u8, s: &[u8]) -> Result<(), Refusal>
+    ensures { coded result ≡ inner_code exchange s.now }
 {
-    let code = transforms_code(byte(s, 7), exchange, 0, transform_bytes(s));
-    if code != 0 {
-        return code;
-    }
+    transforms_code(byte(s, 7), exchange, 0, transform_bytes(s))?;
     if (exchange == 2) & (byte(s, 0) == 2) {
-        15
+        Err(Refusal::BadProposalSyntax)
     } else {
-        0
+        Ok(())
     }
 }
 
-fn proposal_code(exchange: u8, previous: u8, set: Protocols, s: &[u8]) -> u16
-    ensures { result ≡ proposal_code exchange previous set s.now }
+fn proposal_code(exchange: u8, previous: u8, set: Protocols, s: &[u8]) -> Result<(), Refusal>
+    ensures { coded result ≡ proposal_code exchange previous set s.now }
 {
     if proposal_wrong(s) {
-        return 15;
+        return Err(Refusal::BadProposalSyntax);
     }
     if order_wrong(previous, set, s) {
-        return 15;
+        return Err(Refusal::BadProposalSyntax);
     }
     if protocol_wrong(exchange, byte(s, 5)) {
-        return 10;
+        return Err(Refusal::InvalidProtocolId);
     }
     if spi_wrong(exchange, s) {
-        return 11;
+        return Err(Refusal::InvalidSpi);
     }
     if count_wrong(s) {
-        return 15;
+        return Err(Refusal::BadProposalSyntax);
     }
     inner_code(exchange, s)
 }
 
 // The proposals from here on, of which so many may come; the one before has this number, and its set these protocols.
-fn proposals_code(left: u8, exchange: u8, previous: u8, set: Protocols, s: &[u8]) -> u16
-    ensures { result ≡ proposals_code left exchange previous set s.now }
+fn proposals_code(
+    left: u8,
+    exchange: u8,
+    previous: u8,
+    set: Protocols,
+    s: &[u8],
+) -> Result<(), Refusal>
+    ensures { coded result ≡ proposals_code left exchange previous set s.now }
 {
     if left == 0 {
-        return 15;
+        return Err(Refusal::BadProposalSyntax);
     }
-    let code = proposal_code(exchange, previous, set, s);
-    if code != 0 {
-        return code;
-    }
+    proposal_code(exchange, previous, set, s)?;
     let rest = after(s, be16(s, 2) as usize);
     if byte(s, 0) == 0 {
-        return if rest.len() == 0 { 0 } else { 15 };
+        return if rest.len() == 0 {
+            Ok(())
+        } else {
+            Err(Refusal::BadProposalSyntax)
+        };
     }
     let number = byte(s, 4);
-    let set = with(set_before(previous, set, number), byte(s, 5));
+    let set = set_before(previous, set, number).with(byte(s, 5));
     proposals_code(left - 1, exchange, number, set, rest)
 }
 
 // 0 where the body of an SA payload is lawful in the exchange, else the refusal.
-pub fn offer_code(exchange: u8, s: &[u8]) -> u16
-    ensures { result ≡ offer_code exchange s.now }
+pub fn offer_code(exchange: u8, s: &[u8]) -> Result<(), Refusal>
+    ensures { coded result ≡ offer_code exchange s.now }
 {
     if s.len() < 8 {
-        return 15;
+        return Err(Refusal::BadProposalSyntax);
     }
     if be32(s, 0) != 1 {
-        return 2;
+        return Err(Refusal::DoiNotSupported);
     }
     if be32(s, 4) != 1 {
-        return 3;
+        return Err(Refusal::SituationNotSupported);
     }
-    proposals_code(16, exchange, 0, none(), after(s, 8))
+    proposals_code(16, exchange, 0, NONE, after(s, 8))
 }

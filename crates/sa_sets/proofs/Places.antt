@@ -9,9 +9,9 @@ use Rattle.sa_proposals.specs.Proposals.{offer_code}
 use Rattle.sa_proposals.proofs.Laws.{Item, Rising, on, least_at, item-at}
 use Rattle.sa_items.proofs.Laws.{first-item, proposals-count, proposals-place}
 use Rattle.sa_fields.specs.Fields.{proposal_number}
-use Rattle.wire_read.specs.Parts.{skip, parts}
+use Rattle.wire_read.specs.Parts.{skip, parts, numbered}
 use Rattle.wire_read.proofs.Parts.{parts_none, parts_more}
-use Rattle.sa_items.specs.Items.{numbered, proposal, proposal_count}
+use Rattle.sa_items.specs.Items.{proposal, proposal_count}
 use Rattle.sa_sets.specs.Sets.{set_end, first_set, after_set, set, set_count, set_numbered}
 use Rattle.sa_sets.proofs.Laws.{Same, same_end, same-on, Sets, sets_end, sets-on, parted, flatten-some, alone-first, alone-after}
 

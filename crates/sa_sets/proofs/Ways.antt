@@ -9,9 +9,8 @@ use lib.Dec.{ltb, eqb}
 use borrow.Author.Tests.{lt-ltb}
 use Rattle.wire_read.specs.Wire.{number_at}
 use Rattle.wire_read.specs.Tests.{if◌then◌otherwise◌}
-use Rattle.wire_read.specs.Parts.{skip, parts}
+use Rattle.wire_read.specs.Parts.{skip, parts, numbered}
 use Rattle.sa_fields.specs.declared.ProposalNumber.{ProposalNumber}
-use Rattle.sa_items.specs.Items.{numbered}
 use Rattle.sa_sets.specs.Sets.{set_end, first_set, after_set, set, set_count, set_numbered}
 
 module _ (s r : List ℕ) (number end : ℕ) (en : number ≡ get_or s 4 0) (ee : end ≡ set_end 16 number s 0) where

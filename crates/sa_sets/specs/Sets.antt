@@ -3,9 +3,8 @@ use Rattle.std.specs.Prelude.{ℕ, zero, suc, ◌+◌, not, ◌||◌, length, ta
 use Rattle.wire_read.specs.Wire.{Bytes, length_at}
 use Rattle.wire_read.specs.Tests.{if◌then◌otherwise◌}
 use Rattle.sa_fields.specs.declared.ProposalNumber.{ProposalNumber}
-use Rattle.wire_read.specs.Parts.{skip, parts}
+use Rattle.wire_read.specs.Parts.{skip, parts, numbered}
 use Rattle.sa_fields.specs.Fields.{number_field, number_field_at}
-use Rattle.sa_items.specs.Items.{numbered}
 
 -- "Proposals with equal number form one set": where the proposals with this number end, of which so many may come from at on
 unfoldable pub set_end : (left number : ℕ) (s : Bytes) (at : ℕ) → ℕ

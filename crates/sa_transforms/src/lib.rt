@@ -2,8 +2,10 @@
 #![tactic(auto)]
 
 ghost use Rattle.std.specs.Prelude.{◌≡◌};
+ghost use Rattle.refusal.specs.Numbers.{coded};
 ghost use Rattle.sa_transforms.specs.Transforms.{next_wanted, transform_wrong, transform_code, transforms_code};
 
+use refusal::Refusal;
 use sa_coding::attributes_code;
 use wire_read::{after, be16, byte, front};
 
@@ -25,29 +27,30 @@ fn transform_wrong(left: u8, s: &[u8]) -> bool
         | (s.len() < n)
 }
 
-fn transform_code(exchange: u8, left: u8, least: u16, s: &[u8]) -> u16
-    ensures { result ≡ transform_code exchange left least s.now }
+fn transform_code(exchange: u8, left: u8, least: u16, s: &[u8]) -> Result<(), Refusal>
+    ensures { coded result ≡ transform_code exchange left least s.now }
 {
     if transform_wrong(left, s) {
-        return 15;
+        return Err(Refusal::BadProposalSyntax);
     }
     if (byte(s, 4) as u16) < least {
-        return 15;
+        return Err(Refusal::BadProposalSyntax);
     }
     attributes_code(exchange, after(front(s, be16(s, 2) as usize), 8))
 }
 
 // So many transforms and nothing left over, of which the first has at least this number.
-pub fn transforms_code(count: u8, exchange: u8, least: u16, s: &[u8]) -> u16
-    ensures { result ≡ transforms_code count exchange least s.now }
+pub fn transforms_code(count: u8, exchange: u8, least: u16, s: &[u8]) -> Result<(), Refusal>
+    ensures { coded result ≡ transforms_code count exchange least s.now }
 {
     if count == 0 {
-        return if s.len() == 0 { 0 } else { 15 };
+        return if s.len() == 0 {
+            Ok(())
+        } else {
+            Err(Refusal::BadProposalSyntax)
+        };
     }
-    let code = transform_code(exchange, count - 1, least, s);
-    if code != 0 {
-        return code;
-    }
+    transform_code(exchange, count - 1, least, s)?;
     transforms_code(
         count - 1,
         exchange,

@@ -11,8 +11,7 @@ use lib.Dec.{leb, ltb}
 use Rattle.wire_read.specs.Wire.{Bytes}
 use Rattle.wire_read.specs.Answer.{Answer}
 use Rattle.wire_read.proofs.Tests.{clash, by_test}
-use Rattle.sequence_packet.specs.declared.Packet.{Packet}
-use Rattle.sequence_packet.specs.declared.Packet.TheVariants.{Read, Refused}
+use Rattle.sequence_packet.specs.Packet.{Packet, Read, Refused}
 use Rattle.sequence_table.specs.declared.table.Key.{Key}
 use Rattle.sequence_record.specs.Receive.{verdict_answer}
 use Rattle.sequence_packet.specs.Packets.{known, read}

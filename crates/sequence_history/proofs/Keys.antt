@@ -9,9 +9,8 @@ use lib.ListN.{length}
 use lib.Dec.{leb}
 use lib.Count.{ones}
 use Rattle.wire_read.proofs.Tests.{never, clash, by_test}
-use Rattle.sequence_record.specs.declared.Judged.{Judged}
-use Rattle.sequence_packet.specs.declared.Packet.{Packet}
-use Rattle.sequence_packet.specs.declared.Packet.TheVariants.{Read, Refused}
+use Rattle.sequence_record.specs.Verdict.{Judged}
+use Rattle.sequence_packet.specs.Packet.{Packet, Read, Refused}
 use Rattle.sequence_table.specs.declared.table.Key.{Key}
 use Rattle.sequence_table.specs.declared.table.Entry.{Entry}
 use Rattle.sequence_table.proofs.Laws as L

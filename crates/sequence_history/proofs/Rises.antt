@@ -12,8 +12,7 @@ use Rattle.wire_read.specs.Tests.{if◌then◌otherwise◌}
 use Rattle.wire_read.proofs.Tests.{clash, by_test}
 use Rattle.sequence_record.specs.declared.Receive.{Receive}
 use Rattle.sequence_record.specs.Receive.{new_receive, behind, accepted_before, judged, verdict_answer}
-use Rattle.sequence_packet.specs.declared.Packet.{Packet}
-use Rattle.sequence_packet.specs.declared.Packet.TheVariants.{Read, Refused}
+use Rattle.sequence_packet.specs.Packet.{Packet, Read, Refused}
 use Rattle.sequence_packet.specs.Packets.{read}
 use Rattle.sequence_table.specs.declared.table.Key.{Key}
 use Rattle.sequence_table.specs.Table.{Table, rooms, words, empty}

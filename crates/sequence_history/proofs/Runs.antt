@@ -10,8 +10,7 @@ use lib.ListN.{length}
 use lib.Dec.{leb}
 use Rattle.wire_read.specs.Tests.{if◌then◌otherwise◌}
 use Rattle.wire_read.proofs.Tests.{never, clash, by_test}
-use Rattle.sequence_packet.specs.declared.Packet.{Packet}
-use Rattle.sequence_packet.specs.declared.Packet.TheVariants.{Read, Refused}
+use Rattle.sequence_packet.specs.Packet.{Packet, Read, Refused}
 use Rattle.sequence_table.specs.declared.table.Key.{Key}
 use Rattle.sequence_packet.specs.Packets.{read}
 use Rattle.sequence_table.specs.Table.{Table, rooms, words, empty, find}

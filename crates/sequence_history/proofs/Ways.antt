@@ -11,12 +11,11 @@ use Rattle.wire_read.specs.Wire.{Bytes}
 use Rattle.wire_read.specs.Tests.{if◌then◌otherwise◌}
 use Rattle.wire_read.specs.Answer.{Answer, done, refused}
 use Rattle.wire_read.proofs.Tests.{never, clash, by_test}
-use Rattle.sequence_record.specs.declared.Judged.{Judged}
-use Rattle.sequence_packet.specs.declared.Packet.{Packet}
-use Rattle.sequence_packet.specs.declared.Packet.TheVariants.{Read, Refused}
+use Rattle.sequence_record.specs.Verdict.{Judged}
+use Rattle.sequence_packet.specs.Packet.{Packet, Read, Refused}
 use Rattle.sequence_table.specs.declared.table.Key.{Key}
 use Rattle.sequence_table.specs.declared.table.Entry.{Entry}
-use Rattle.sequence_table.specs.declared.table.Counted.TheVariants.{Line}
+use Rattle.sequence_table.specs.Counted.{Line}
 use Rattle.sequence_record.specs.Receive.{judged, loss_line, verdict_answer}
 use Rattle.sequence_packet.specs.Packets.{ah_reserved, ah_spi, ah_number, esp_spi, esp_number, known, ah_size, ah, esp, read}
 use Rattle.sequence_table.specs.Table.{Table, rooms, words, find, free, put_key, new_entry, emptied, with_receive, with_counter, entry_at, put_entry, added, removed, judged_at, packet_read, packet, handed_out, next_to_send, loss, outcome_answer, sending_answer, counted_answer}

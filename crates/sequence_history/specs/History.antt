@@ -6,8 +6,7 @@ use Rattle.wire_write.specs.Put.{bytes_of}
 use Rattle.wire_read.specs.Tests.{if◌then◌otherwise◌}
 use Rattle.wire_read.specs.Answer.{Answer, done, refused}
 use Rattle.sequence_record.specs.declared.Receive.{Receive}
-use Rattle.sequence_packet.specs.declared.Packet.{Packet}
-use Rattle.sequence_packet.specs.declared.Packet.TheVariants.{Read, Refused}
+use Rattle.sequence_packet.specs.Packet.{Packet, Read, Refused}
 use Rattle.sequence_table.specs.declared.table.Key.{Key}
 use Rattle.sequence_record.specs.Receive.{new_receive, judged, verdict_answer}
 use Rattle.sequence_packet.specs.Packets.{known, read, packet_answer}

@@ -2,13 +2,13 @@
 use Prim.Native.Nat.{ℕ, ◌+◌, ◌*◌, ◌≤◌, ◌<◌}
 use mathlib.Core.Path.{◌≡◌}
 use mathlib.Core.List.{List}
-use mathlib.Core.Bool.{Bool, true, false, not, ◌&&◌}
+use mathlib.Core.Bool.{true, false, ◌&&◌}
 use lib.ListN.{length}
 use lib.Dec.{leb, eqb}
-use borrow.Author.Tests.{le-leb, lt-leb, eq-eqb, ne_eqb}
-use Rattle.sequence_packet.specs.Packets.{ah_length_field, ah_reserved, ah_spi, ah_number, esp_spi, esp_number, known, ah, esp, read}
-use Rattle.sequence_packet.specs.declared.Packet.{Packet}
-use Rattle.sequence_packet.specs.declared.Packet.TheVariants as Packets
+use borrow.Author.Tests.{le-leb, lt-leb, ne_eqb}
+use Rattle.sequence_packet.specs.Packets.{ah_length_field, ah_reserved, ah_spi, ah_number, esp_spi, esp_number, ah, esp, read}
+use Rattle.sequence_packet.specs.Packet.{Packet}
+use Rattle.sequence_packet.specs.Packet as Packets
 
 module _ (s : List ℕ) (l z : ℕ) (el : l ≡ ah_length_field s) (ez : z ≡ ah_reserved s) where
   pub ah-read : (leb 12 (length s) && eqb z 0 && leb 12 ((l + 2) * 4) && leb ((l + 2) * 4) (length s)) ≡ true →
@@ -29,16 +29,15 @@ module _ (s : List ℕ) where
   unfolding esp
   esp-refused h = rw (lt-leb 8 (length s) h)
 
-  module _ (protocol : ℕ) (k : Bool) (ek : k ≡ known protocol) where
-    pub read_unknown : not k ≡ true → Packets.Refused 10 ≡ read protocol s
+  module _ (protocol : ℕ) where
+    pub read-ah : protocol ≡ 2 → (p : Packet) → p ≡ ah s → p ≡ read protocol s
     unfolding read
-    read_unknown h = rw (← ek, h)
+    read-ah e p ep = rw e ep
 
-    module _ (h : not k ≡ false) (p : Packet) where
-      pub read-ah : protocol ≡ 2 → p ≡ ah s → p ≡ read protocol s
-      unfolding read
-      read-ah e ep = rw (← ek, h, eq-eqb protocol 2 e) ep
+    pub read-esp : protocol ≡ 3 → (p : Packet) → p ≡ esp s → p ≡ read protocol s
+    unfolding read
+    read-esp e p ep = rw e ep
 
-      pub read-esp : (protocol ≡ 2 → ⊥) → p ≡ esp s → p ≡ read protocol s
-      unfolding read
-      read-esp e ep = rw (← ek, h, ne_eqb protocol 2 e) ep
+    pub read_unknown : (protocol ≡ 2 → ⊥) → (protocol ≡ 3 → ⊥) → Packets.Refused 10 ≡ read protocol s
+    unfolding read
+    read_unknown no_ah no_esp = rw (ne_eqb protocol 2 no_ah, ne_eqb protocol 3 no_esp)

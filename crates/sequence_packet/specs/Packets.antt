@@ -3,8 +3,7 @@ use Rattle.std.specs.Prelude.{ℕ, ◌+◌, ◌*◌, [], ◌∷◌, Bool, not, �
 use Rattle.wire_read.specs.Wire.{Bytes, number_at}
 use Rattle.wire_read.specs.Tests.{if◌then◌otherwise◌}
 use Rattle.wire_read.specs.Answer.{Answer, done, refused}
-use Rattle.sequence_packet.specs.declared.Packet.{Packet}
-use Rattle.sequence_packet.specs.declared.Packet.TheVariants.{Read, Refused}
+use Rattle.sequence_packet.specs.Packet.{Packet, Read, Refused}
 
 -- ---- the fields
 

@@ -5,13 +5,15 @@
 
 ghost use Rattle.std.specs.Prelude.{◌≡◌};
 ghost use Rattle.sequence_packet.specs.Packets.{known, ah, esp, read};
+ghost use Rattle.sequence_packet.specs.Packet.{packet_told};
 
+use refusal::Refusal;
 use wire_read::{be16, be32, byte};
 
-#[derive(Clone, Copy)]
-pub enum Packet {
-    Read { spi: u32, number: u32 },
-    Refused(u16),
+#[derive(Clone, Copy, Debug, PartialEq, Eq)]
+pub struct Packet {
+    pub spi: u32,
+    pub number: u32,
 }
 
 pub fn known(protocol: u8) -> bool
@@ -20,39 +22,40 @@ pub fn known(protocol: u8) -> bool
     (protocol == 2) | (protocol == 3)
 }
 
-fn ah(s: &[u8]) -> Packet
-    ensures { result ≡ ah s.now }
+fn ah(s: &[u8]) -> Result<Packet, Refusal>
+    ensures { packet_told result ≡ ah s.now }
 {
     let size = (byte(s, 1) as usize + 2) * 4;
     if (12 <= s.len()) & (be16(s, 2) == 0) & (12 <= size) & (size <= s.len()) {
-        Packet::Read {
+        Ok(Packet {
             spi: be32(s, 4),
             number: be32(s, 8),
-        }
+        })
     } else {
-        Packet::Refused(16)
+        Err(Refusal::PayloadMalformed)
     }
 }
 
-fn esp(s: &[u8]) -> Packet
-    ensures { result ≡ esp s.now }
+fn esp(s: &[u8]) -> Result<Packet, Refusal>
+    ensures { packet_told result ≡ esp s.now }
 {
     if 8 <= s.len() {
-        Packet::Read {
+        Ok(Packet {
             spi: be32(s, 0),
             number: be32(s, 4),
-        }
+        })
     } else {
-        Packet::Refused(16)
+        Err(Refusal::PayloadMalformed)
     }
 }
 
 // The packet of a protocol, 2 for AH and 3 for ESP, from its first byte to its last.
-pub fn read(protocol: u8, s: &[u8]) -> Packet
-    ensures { result ≡ read protocol s.now }
+pub fn read(protocol: u8, s: &[u8]) -> Result<Packet, Refusal>
+    ensures { packet_told result ≡ read protocol s.now }
 {
-    if !known(protocol) {
-        return Packet::Refused(10);
+    match protocol {
+        2 => ah(s),
+        3 => esp(s),
+        _ => Err(Refusal::InvalidProtocolId),
     }
-    if protocol == 2 { ah(s) } else { esp(s) }
 }

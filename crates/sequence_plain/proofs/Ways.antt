@@ -1,13 +1,21 @@
 -- A law for each way out of this crate's functions: what the definitions say under the tests that the code makes.
 use Prim.Native.Nat.{ℕ, suc, ◌+◌, ◌-◌, ◌≤◌, ◌<◌, min, max}
-use mathlib.Core.Path.{◌≡◌, sym, ap, ◌∙◌}
-use mathlib.Core.Bool.{Bool, true, false, not}
-use mathlib.Core.List.{◌∷◌}
+use mathlib.Core.Path.{◌≡◌, sym, ap, ap₂, ◌∙◌}
+use mathlib.Core.Bool.{Bool, true, false, not, ◌||◌}
+use mathlib.Core.List.{List, ◌∷◌}
 use native.Mathlib.Omega.{arith}
-use lib.ListN.{get_or, set}
-use borrow.Author.Tests.{eq-eqb, ne_eqb, le-leb, lt-leb}
+use lib.ListN.{length, get_or, set, take, drop}
+use Rattle.std.proofs.lemmas.List.{get_or-take, get_or-drop, length-drop, length-take}
+use Rattle.std.proofs.lemmas.List.Folds.{list_any_more}
+use Rattle.std.specs.List.{list_any}
+use lib.Dec.{eqb}
+use Rattle.wire_read.proofs.Tests.{by_test}
+use mathlib.Core.Path.{refl}
+use Prim.Native.Nat.{zero}
+use Rattle.std.proofs.Math.Bool.{or_comm}
+use borrow.Author.Tests.{eq-eqb, ne_eqb, eqb-true, eqb-false, le-leb, lt-leb}
 use Rattle.sequence_record.specs.Receive.{behind, verdict_answer}
-use Rattle.sequence_record.specs.declared.Verdict.TheVariants.{Accepted, Refused}
+use Rattle.sequence_record.specs.Verdict.{Accepted, Refused}
 use Rattle.sequence_record.specs.declared.LossLine.{LossLine}
 use Rattle.sequence_history.specs.History.{highest, member, one, sum, right_number}
 use Rattle.sequence_plain.specs.Plain.{PlainList, most, count_of, first_numbers, numbers_of, with_next, right_plain, plain_step, plain_loss}
@@ -15,37 +23,55 @@ use Rattle.sequence_plain.proofs.ListLaws.{numbers_length}
 
 -- ---- looking through the list
 
+eqb_sym : (a b : ℕ) → eqb a b ≡ eqb b a
+eqb_sym a b = by_test (eqb a b) (λ e. e ∙ sym (eq-eqb b a (sym (eqb-true a b e)))) (λ e. e ∙ sym (ne_eqb b a (λ q. eqb-false a b e (sym q))))
+
 module _ (list : PlainList) where
-  pub count-within : get_or list 0 0 < most → get_or list 0 0 ≡ count_of list
-  count-within l = omega arith
-
-  pub count_over : most ≤ get_or list 0 0 → most ≡ count_of list
-  count_over l = omega arith
-
   -- one number more is seen
   first_next : (seen : ℕ) → first_numbers list (seen + 1) ≡ get_or list (seen + 1) 0 ∷ first_numbers list seen
   unfolding first_numbers
   first_next seen = let e : seen + 1 ≡ suc seen = omega arith in rw e
 
-  module _ (seen x : ℕ) (so_far : x ≡ highest (first_numbers list seen)) where
-    pub higher : x < get_or list (seen + 1) 0 → get_or list (seen + 1) 0 ≡ highest (first_numbers list (seen + 1))
-    higher l = rw (first_next seen, ← so_far) (omega arith)
+  seen_number : (count seen : ℕ) → seen < count → get_or (take count (drop 1 list)) seen 0 ≡ get_or list (seen + 1) 0
+  seen_number count seen l =
+      let e : 1 + seen ≡ seen + 1 = omega arith in
+      get_or-take count (drop 1 list) seen 0 l ∙ get_or-drop 1 list seen 0 ∙ ap (λ (k : ℕ). get_or list k 0) e
 
-    pub not_higher : get_or list (seen + 1) 0 ≤ x → x ≡ highest (first_numbers list (seen + 1))
-    not_higher l = rw (first_next seen, ← so_far) (omega arith)
+  -- so many numbers of the list are looked through for one
+  pub seen_any : (number count : ℕ) → count < length list →
+      list_any (λ (x : ℕ). eqb x number) (take count (drop 1 list)) ≡ member number (first_numbers list count)
+  unfolding first_numbers
+  seen_any number zero l = refl
+  seen_any number (suc seen) l =
+      let e : suc seen ≡ seen + 1 = omega arith in
+      ap (λ (k : ℕ). list_any (λ (x : ℕ). eqb x number) (take k (drop 1 list))) e
+      ∙ list_any_more (λ (x : ℕ). eqb x number) (drop 1 list) seen 0 (omega (arith, length-drop 1 list))
+      ∙ ap₂ (λ (a b : Bool). a || b) (seen_any number seen (omega arith)) (last_same number seen)
+      ∙ or_comm (member number (first_numbers list seen)) (eqb number (get_or list (suc seen) 0))
+    where
+      last_same : (n k : ℕ) → eqb (get_or (drop 1 list) k 0) n ≡ eqb n (get_or list (suc k) 0)
+      last_same n k =
+          let e : 1 + k ≡ suc k = omega arith in
+          ap (λ (x : ℕ). eqb x n) (get_or-drop 1 list k 0 ∙ ap (λ (i : ℕ). get_or list i 0) e) ∙ eqb_sym (get_or list (suc k) 0) n
 
-    pub all_seen : (count : ℕ) → count ≡ count_of list → seen ≤ count → count ≤ seen → x ≡ highest (numbers_of list)
-    all_seen count is l g = let e : seen ≡ count_of list = omega (arith, is) in rw (← e) so_far
+  module _ (numbers : List ℕ) (are : numbers ≡ take (count_of list) (drop 1 list)) where
+    pub next_highest : (seen x : ℕ) → x ≡ highest (first_numbers list seen) → seen < length numbers →
+        (y : ℕ) → y ≡ max x (get_or numbers seen 0) → y ≡ highest (first_numbers list (seen + 1))
+    next_highest seen x so_far l y is =
+        let within : seen < count_of list = omega (arith, ap length are, length-take (count_of list) (drop 1 list)) in
+        let last = ap (λ (s : List ℕ). get_or s seen 0) are ∙ seen_number (count_of list) seen within in
+        is ∙ rw (first_next seen, ← so_far, last) (omega arith)
 
-  module _ (number seen : ℕ) (found : Bool) (so_far : found ≡ member number (first_numbers list seen)) where
-    pub found_here : get_or list (seen + 1) 0 ≡ number → true ≡ member number (first_numbers list (seen + 1))
-    found_here e = rw (first_next seen, eq-eqb number (get_or list (seen + 1) 0) (sym e))
+    module _ (long : length list ≡ most + 1) where
+      numbers-count : length numbers ≡ count_of list
+      numbers-count = omega (arith, long, ap length are, length-take (count_of list) (drop 1 list), length-drop 1 list)
 
-    pub not-here : (get_or list (seen + 1) 0 ≡ number → ⊥) → found ≡ member number (first_numbers list (seen + 1))
-    not-here d = rw (first_next seen, ne_eqb number (get_or list (seen + 1) 0) (λ e. d (sym e))) so_far
+      pub all_seen : (seen x : ℕ) → x ≡ highest (first_numbers list seen) → seen ≤ length numbers → length numbers ≤ seen →
+          x ≡ highest (numbers_of list)
+      all_seen seen x so_far l g = let e : seen ≡ count_of list = omega (arith, numbers-count) in rw (← e) so_far
 
-    pub all_searched : (count : ℕ) → count ≡ count_of list → seen ≤ count → count ≤ seen → found ≡ member number (numbers_of list)
-    all_searched count is l g = let e : seen ≡ count_of list = omega (arith, is) in rw (← e) so_far
+      pub found-in : (number : ℕ) (found : Bool) → found ≡ list_any (λ (x : ℕ). eqb x number) numbers → found ≡ member number (numbers_of list)
+      found-in number found is = is ∙ ap (list_any (λ (x : ℕ). eqb x number)) are ∙ seen_any number (count_of list) (omega (arith, long))
 
 -- ---- a step
 
@@ -70,11 +96,12 @@ module _ (list : PlainList) (number : ℕ) (integrity : Bool) (top : ℕ) (tops 
         unfolding plain_step right_plain right_number verdict_answer
         step-full h = rw (← tops, ← eb, near, ← ea, new, whole, numbers_length list, ← ec, le-leb most count h)
 
-        pub step-done : count < most → (rise : ℕ) → rise ≡ max number top - top →
+        pub step-done : count < most → (rise : ℕ) → rise ≡ number - top →
             plain_step list number integrity ≡ (verdict_answer (Accepted rise), set (set list (count + 1) number) 0 (count + 1))
         unfolding plain_step right_plain right_number verdict_answer with_next
         step-done room rise is =
-            rw (← tops, ← eb, near, ← ea, new, whole, numbers_length list, ← ec, lt-leb most count room, is)
+            let risen : max number top - top ≡ rise = omega (arith, is) in
+            rw (← tops, ← eb, near, ← ea, new, whole, numbers_length list, ← ec, lt-leb most count room, risen)
 
 -- ---- the loss line
 

@@ -2,43 +2,43 @@
 // sequence_record does up to 4,096 acceptances, and is there to be read and compared with: the window is the fast one.
 #![tactic(auto)]
 
-ghost use Rattle.std.specs.Prelude.{◌≡◌, ◌-◌, max, min};
-ghost use Rattle.sequence_record.specs.Receive.{behind, verdict_answer};
+ghost use Rattle.std.specs.Prelude.{◌≡◌, take, drop};
+ghost use Rattle.sequence_record.specs.Receive.{verdict_answer};
+ghost use Rattle.sequence_record.specs.Verdict.{verdict_told};
 ghost use Rattle.sequence_history.specs.History.{highest, member};
 ghost use Rattle.sequence_plain.specs.Plain.{count_of, numbers_of, plain_step, plain_loss};
 
-use sequence_record::{LossLine, Verdict};
+use refusal::Refusal;
+use sequence_record::{LossLine, Verdict, behind};
 
 // How many numbers a list can have.
 pub const MOST: usize = 4096;
 
 // A count, and behind it so many numbers in the order of their acceptance; all zero is the list of a life that begins. Any words at all
-// get an answer.
+// get an answer. Count and numbers are words of one array, since C lends them.
 pub type PlainList = [u64; 1 + MOST];
 
 // How many numbers the list has.
 fn count_of(list: &PlainList) -> usize
     ensures { result ≡ count_of list.now }
 {
-    if list[0] < MOST as u64 {
-        list[0] as usize
-    } else {
-        MOST
-    }
+    list[0].min(MOST as u64) as usize
+}
+
+// The numbers of the list, in the order of their acceptance.
+fn numbers(list: &PlainList) -> &[u64]
+    ensures { result.now ≡ take (count_of list.now) (drop 1 list.now) }
+{
+    &list[1..1 + count_of(list)]
 }
 
 // The highest number of the list, 0 where it has none.
 fn highest_of(list: &PlainList) -> u64
     ensures { result ≡ highest (numbers_of list.now) }
 {
-    let count = count_of(list);
-    let mut highest = 0;
-    let mut seen = 0;
-    while seen < count {
-        seen += 1;
-        if highest < list[seen] {
-            highest = list[seen];
-        }
+    let mut highest: u64 = 0;
+    for &number in numbers(list) {
+        highest = highest.max(number);
     }
     highest
 }
@@ -47,65 +47,30 @@ fn highest_of(list: &PlainList) -> u64
 fn is_in(list: &PlainList, number: u64) -> bool
     ensures { result ≡ member number (numbers_of list.now) }
 {
-    let count = count_of(list);
-    let mut found = false;
-    let mut seen = 0;
-    while seen < count {
-        seen += 1;
-        if list[seen] == number {
-            found = true;
-        }
-    }
-    found
-}
-
-fn behind(highest: u64, number: u32) -> bool
-    ensures { result ≡ behind highest number }
-{
-    (number == 0) | (number as u64 + 64 <= highest)
-}
-
-// By how much the highest number rises with this one, 0 where it does not.
-fn rise(highest: u64, number: u32) -> u64
-    ensures { result ≡ max number highest - highest }
-{
-    if highest < number as u64 {
-        number as u64 - highest
-    } else {
-        0
-    }
+    numbers(list).contains(&number)
 }
 
 // What a packet with this number does to the list; integrity is what the caller says of it.
 pub fn step(list: &mut PlainList, number: u32, integrity: bool) -> Verdict
-    ensures { plain_step list.old number integrity ≡ (verdict_answer result, list.new) }
+    ensures { plain_step list.old number integrity ≡ (verdict_answer (verdict_told result), list.new) }
 {
     let highest = highest_of(list);
-    let old = behind(highest, number);
-    let again = is_in(list, number as u64);
+    if behind(highest, number) {
+        return Err(Refusal::BehindWindow);
+    }
+    if is_in(list, number as u64) {
+        return Err(Refusal::AcceptedBefore);
+    }
     let count = count_of(list);
-    if old {
-        return Verdict::Refused(8197);
-    }
-    if again {
-        return Verdict::Refused(8194);
-    }
     if !integrity {
-        return Verdict::Refused(24);
+        return Err(Refusal::AuthenticationFailed);
     }
     if MOST <= count {
-        return Verdict::Refused(8202);
+        return Err(Refusal::ListFull);
     }
     list[count + 1] = number as u64;
     list[0] = count as u64 + 1;
-    Verdict::Accepted(rise(highest, number))
-}
-
-// How many numbers a loss line looks at.
-fn span(highest: u64) -> u64
-    ensures { result ≡ min highest 64 }
-{
-    if highest < 64 { highest } else { 64 }
+    Ok((number as u64).saturating_sub(highest))
 }
 
 // The highest number, how many of the last numbers are looked at, and how many of those are in the list.
@@ -113,13 +78,10 @@ pub fn loss_line(list: &PlainList) -> LossLine
     ensures { result ≡ plain_loss list.now }
 {
     let highest = highest_of(list);
-    let span = span(highest);
+    let span = highest.min(64);
     let mut count = 0;
-    let mut looked = 0;
-    while looked < span {
-        let number = highest - looked;
-        looked += 1;
-        if is_in(list, number) {
+    for looked in 0..span {
+        if is_in(list, highest - looked) {
             count += 1;
         }
     }

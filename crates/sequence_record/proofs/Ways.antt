@@ -1,17 +1,16 @@
 -- A law for each way out of this crate's functions: what the definitions say under the tests that the code makes.
-use Prim.Native.Nat.{ℕ, ◌+◌, ◌-◌, ◌*◌, ◌/◌, ◌%◌, ◌^◌, ◌≤◌, ◌<◌, min}
+use Prim.Native.Nat.{ℕ, ◌+◌, ◌-◌, ◌*◌, ◌/◌, ◌%◌, ◌^◌, ◌≤◌, ◌<◌}
 use mathlib.Core.Path.{◌≡◌, sym, ap, ◌∙◌}
 use mathlib.Core.Bool.{Bool, true, false, not}
 use native.Mathlib.Nat.{max-eq_left, max-eq_right, sub_self, mul-one, one-mul, mod-eq_of_lt, le_of_lt}
 use native.Mathlib.Omega.{arith}
 use lib.Dec.{leb, eqb, lit<}
-use lib.Count.{ones}
 use lib.Pow.{pow-lt}
 use borrow.Author.Tests.{lt-ltb, le-ltb, le-leb, lt-leb, ne_eqb, eqb-false, leb-false}
 use Rattle.wire_read.proofs.Tests.{neither}
-use Rattle.sequence_record.specs.Receive.{bit, behind, accepted_before, shifted, rise, with_number, judged, loss_line}
+use Rattle.sequence_record.specs.Receive.{bit, behind, accepted_before, shifted, rise, with_number, judged}
 use Rattle.sequence_record.specs.declared.Receive.{Receive}
-use Rattle.sequence_record.specs.declared.Verdict.TheVariants.{Accepted, Refused}
+use Rattle.sequence_record.specs.Verdict.{Accepted, Refused}
 use Rattle.sequence_record.proofs.Bits.{set_lt, shifted_lt, shifted_low}
 
 pub far : (w places : ℕ) → 64 ≤ places → 0 ≡ shifted w places
@@ -94,6 +93,3 @@ module _ (r : Receive) (n : ℕ) (integrity : Bool) where
               ≡ judged r n integrity
           unfolding judged
           late_accepted h = rw (← eb, live, le-leb n r.highest l, unmarked, h, late_with-number, late_rise)
-
-pub line_read : (r : Receive) (s : ℕ) → s ≡ min r.highest 64 → record { highest = r.highest; span = s; count = ones r.window } ≡ loss_line r
-line_read r s e = rw e

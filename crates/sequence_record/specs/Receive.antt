@@ -5,9 +5,7 @@ use Rattle.std.specs.Int.Count.{ones}
 use Rattle.wire_read.specs.Tests.{if◌then◌otherwise◌}
 use Rattle.wire_read.specs.Answer.{Answer, done, refused}
 use Rattle.sequence_record.specs.declared.Receive.{Receive}
-use Rattle.sequence_record.specs.declared.Verdict.{Verdict}
-use Rattle.sequence_record.specs.declared.Verdict.TheVariants.{Accepted, Refused}
-use Rattle.sequence_record.specs.declared.Judged.{Judged}
+use Rattle.sequence_record.specs.Verdict.{Verdict, Accepted, Refused, Judged}
 use Rattle.sequence_record.specs.declared.LossLine.{LossLine}
 
 -- "With H the highest accepted number of this life, 0 at first"

@@ -2,39 +2,38 @@
 // value and comes back; `step_in_place` is the same step where the caller's record stands.
 #![tactic(auto)]
 
-ghost use Rattle.std.specs.Prelude.{◌≡◌, min, ◌<◌, ◌≤◌};
+ghost use Rattle.std.specs.Prelude.{◌≡◌, ◌<◌, ◌≤◌};
 ghost use Rattle.sequence_record.specs.Receive.{new_receive, behind, shifted, judged, loss_line};
+ghost use Rattle.sequence_record.specs.Verdict.{verdict_told, judged_told};
+
+use refusal::Refusal;
 
 // A number's place in the window is how far it lies below the highest: bit 0 of the window is the highest itself.
 #[repr(C)]
-#[derive(Clone, Copy)]
+#[derive(Clone, Copy, Debug, PartialEq, Eq)]
 pub struct Receive {
     pub highest: u64,
     pub window: u64,
 }
 
-#[derive(Clone, Copy)]
-pub enum Verdict {
-    // By how much the highest number rose, 0 where it did not.
-    Accepted(u64),
-    Refused(u16),
-}
+// By how much the highest number rose, 0 where it did not; or why the number is refused.
+pub type Verdict = Result<u64, Refusal>;
 
 // A step's verdict, and the record after it.
-#[derive(Clone, Copy)]
+#[derive(Clone, Copy, Debug, PartialEq, Eq)]
 pub struct Judged {
     pub receive: Receive,
     pub verdict: Verdict,
 }
 
-#[derive(Clone, Copy)]
+#[derive(Clone, Copy, Debug, PartialEq, Eq)]
 pub struct LossLine {
     pub highest: u64,
     pub span: u64,
     pub count: u32,
 }
 
-// The record with which a life begins.
+// The record with which a life begins. Theorems name it, and `Default` would say it twice.
 pub fn new_receive() -> Receive
     ensures { result ≡ new_receive }
 {
@@ -44,7 +43,8 @@ pub fn new_receive() -> Receive
     }
 }
 
-fn behind(highest: u64, number: u32) -> bool
+// Whether a number is 0, or so far below the highest that the window no longer has its place.
+pub fn behind(highest: u64, number: u32) -> bool
     ensures { result ≡ behind highest number }
 {
     (number == 0) | (number as u64 + 64 <= highest)
@@ -60,7 +60,7 @@ fn shifted(window: u64, places: u64) -> u64
 // The step of a number above the highest, as most are: it is neither behind the window nor accepted before, so neither is tested.
 fn step_above(r: Receive, number: u32, integrity: bool) -> Judged
     requires { r.highest < number }
-    ensures { result ≡ judged r number integrity }
+    ensures { judged_told result ≡ judged r number integrity }
 {
     let highest = r.highest;
     let window = r.window;
@@ -68,7 +68,7 @@ fn step_above(r: Receive, number: u32, integrity: bool) -> Judged
     if !integrity {
         return Judged {
             receive: r,
-            verdict: Verdict::Refused(24),
+            verdict: Err(Refusal::AuthenticationFailed),
         };
     }
     let rise = n - highest;
@@ -77,21 +77,21 @@ fn step_above(r: Receive, number: u32, integrity: bool) -> Judged
             highest: n,
             window: shifted(window, rise) + 1,
         },
-        verdict: Verdict::Accepted(rise),
+        verdict: Ok(rise),
     }
 }
 
 // The step of any other number.
 fn step_not_above(r: Receive, number: u32, integrity: bool) -> Judged
     requires { number ≤ r.highest }
-    ensures { result ≡ judged r number integrity }
+    ensures { judged_told result ≡ judged r number integrity }
 {
     let highest = r.highest;
     let window = r.window;
     if behind(highest, number) {
         return Judged {
             receive: r,
-            verdict: Verdict::Refused(8197),
+            verdict: Err(Refusal::BehindWindow),
         };
     }
     let place = highest - number as u64;
@@ -99,13 +99,13 @@ fn step_not_above(r: Receive, number: u32, integrity: bool) -> Judged
     if accepted_before {
         return Judged {
             receive: r,
-            verdict: Verdict::Refused(8194),
+            verdict: Err(Refusal::AcceptedBefore),
         };
     }
     if !integrity {
         return Judged {
             receive: r,
-            verdict: Verdict::Refused(24),
+            verdict: Err(Refusal::AuthenticationFailed),
         };
     }
     Judged {
@@ -113,13 +113,13 @@ fn step_not_above(r: Receive, number: u32, integrity: bool) -> Judged
             highest,
             window: window + (1 << place),
         },
-        verdict: Verdict::Accepted(0),
+        verdict: Ok(0),
     }
 }
 
 // What a packet with this number does to the record; integrity is what the caller says of it.
 pub fn step(r: Receive, number: u32, integrity: bool) -> Judged
-    ensures { result ≡ judged r number integrity }
+    ensures { judged_told result ≡ judged r number integrity }
 {
     let highest = r.highest;
     // By a return and not an else: compiled so, the two ways stay apart to the end, and a step is a fifth shorter.
@@ -127,13 +127,6 @@ pub fn step(r: Receive, number: u32, integrity: bool) -> Judged
         return step_above(r, number, integrity);
     }
     step_not_above(r, number, integrity)
-}
-
-// How many numbers a loss line looks at.
-fn span(highest: u64) -> u64
-    ensures { result ≡ min highest 64 }
-{
-    if highest < 64 { highest } else { 64 }
 }
 
 // The highest number, how many of the last numbers are looked at, and how many of those were accepted.
@@ -144,23 +137,23 @@ pub fn loss_line(r: Receive) -> LossLine
     let window = r.window;
     LossLine {
         highest,
-        span: span(highest),
-        count: u64::count_ones(window),
+        span: highest.min(64),
+        count: window.count_ones(),
     }
 }
 
 // The step where the caller's record stands: it is brought up to date, and the verdict comes back.
 pub fn step_in_place(r: &mut Receive, number: u32, integrity: bool) -> Verdict
-    ensures { judged r.old number integrity ≡ record { receive = r.new; verdict = result } }
+    ensures { judged r.old number integrity ≡ record { receive = r.new; verdict = verdict_told result } }
 {
     let j = step(*r, number, integrity);
     *r = j.receive;
     j.verdict
 }
 
-// The same step by the lent call, for a caller that holds the record by value: such a caller needs no proof by hand.
+// The same step by the lent call, for a caller that holds the record by value.
 pub fn step_lent(r: Receive, number: u32, integrity: bool) -> Judged
-    ensures { result ≡ judged r number integrity }
+    ensures { judged_told result ≡ judged r number integrity }
 {
     let mut lent = r;
     let verdict = step_in_place(&mut lent, number, integrity);

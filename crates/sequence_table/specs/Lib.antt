@@ -1,1 +1,4 @@
+pub mod Outcome
+pub mod Sending
+pub mod Counted
 pub mod Table

@@ -5,19 +5,18 @@ use Rattle.wire_read.specs.Wire.{Bytes}
 use Rattle.wire_read.specs.Tests.{if◌then◌otherwise◌}
 use Rattle.wire_read.specs.Answer.{Answer, done, refused}
 use Rattle.sequence_record.specs.declared.Receive.{Receive}
-use Rattle.sequence_record.specs.declared.Verdict.{Verdict}
-use Rattle.sequence_record.specs.declared.Verdict.TheVariants as Verdicts
-use Rattle.sequence_record.specs.declared.Judged.{Judged}
-use Rattle.sequence_packet.specs.declared.Packet.{Packet}
-use Rattle.sequence_packet.specs.declared.Packet.TheVariants as Packets
+use Rattle.sequence_record.specs.Verdict.{Verdict, Judged}
+use Rattle.sequence_record.specs.Verdict as Verdicts
+use Rattle.sequence_packet.specs.Packet.{Packet}
+use Rattle.sequence_packet.specs.Packet as Packets
 use Rattle.sequence_table.specs.declared.table.Key.{Key}
 use Rattle.sequence_table.specs.declared.table.Entry.{Entry}
-use Rattle.sequence_table.specs.declared.table.Outcome.{Outcome}
-use Rattle.sequence_table.specs.declared.table.Outcome.TheVariants as Outcomes
-use Rattle.sequence_table.specs.declared.table.Sending.{Sending}
-use Rattle.sequence_table.specs.declared.table.Sending.TheVariants as Sendings
-use Rattle.sequence_table.specs.declared.table.Counted.{Counted}
-use Rattle.sequence_table.specs.declared.table.Counted.TheVariants as Counts
+use Rattle.sequence_table.specs.Outcome.{Outcome}
+use Rattle.sequence_table.specs.Outcome as Outcomes
+use Rattle.sequence_table.specs.Sending.{Sending}
+use Rattle.sequence_table.specs.Sending as Sendings
+use Rattle.sequence_table.specs.Counted.{Counted}
+use Rattle.sequence_table.specs.Counted as Counts
 use Rattle.sequence_record.specs.Receive.{new_receive, judged, loss_line}
 use Rattle.sequence_packet.specs.Packets.{known, read}
 

@@ -1,18 +1,24 @@
 // The table of 64 SA entries, in words that the caller lends; all words zero is the empty table. Any words at all get an answer.
 //   a room  mark (0: free, else the protocol plus 1), destination, SPI, highest, window, counter
-ghost use Rattle.std.specs.Prelude.{◌≡◌, ◌<◌};
-ghost use Rattle.sequence_table.specs.Table.{rooms, holds, find, free, put_key, with_receive, entry_at, put_entry, added, removed, packet, next_to_send, loss};
+ghost use Rattle.std.specs.Prelude.{◌≡◌, ◌<◌, IfSome, unwrap_or};
+ghost use Rattle.sequence_record.specs.Verdict.{verdict_told};
+ghost use Rattle.sequence_table.specs.Outcome.{outcome_told};
+ghost use Rattle.sequence_table.specs.Sending.{sending_told};
+ghost use Rattle.sequence_table.specs.Counted.{counted_told};
+ghost use Rattle.sequence_table.specs.Table.{rooms, holds, find, free, put_key, entry_at, put_entry, added, removed, packet, next_to_send, loss};
 
+use refusal::Refusal;
 use sequence_packet::{Packet, known, read};
-use sequence_record::{LossLine, Receive, Verdict, loss_line, new_receive, step};
+use sequence_record::{Judged, LossLine, Receive, Verdict, loss_line, new_receive, step};
 
 pub const ROOMS: usize = 64;
 
 pub const WORDS: usize = 6;
 
+// Words and not entries, since C lends them.
 pub type Table = [u64; ROOMS * WORDS];
 
-#[derive(Clone, Copy)]
+#[derive(Clone, Copy, Debug, PartialEq, Eq)]
 pub struct Key {
     pub destination: u32,
     pub protocol: u8,
@@ -20,28 +26,10 @@ pub struct Key {
 }
 
 // What an entry keeps of its life beside its key. `counter` is the number last handed out for sending.
-#[derive(Clone, Copy)]
+#[derive(Clone, Copy, Debug, PartialEq, Eq)]
 pub struct Entry {
     pub receive: Receive,
     pub counter: u64,
-}
-
-#[derive(Clone, Copy)]
-pub enum Outcome {
-    Done,
-    Refused(u16),
-}
-
-#[derive(Clone, Copy)]
-pub enum Sending {
-    Number(u32),
-    Refused(u16),
-}
-
-#[derive(Clone, Copy)]
-pub enum Counted {
-    Line(LossLine),
-    Refused(u16),
 }
 
 // Whether a room holds a life of the key. The SPI comes first, since it parts most keys: the search runs through all rooms.
@@ -50,39 +38,34 @@ fn holds(t: &Table, key: Key, room: usize) -> bool
     ensures { result ≡ holds t.now key room }
 {
     let at = room * WORDS;
-    if t[at + 2] == key.spi as u64 {
-        (t[at] == key.protocol as u64 + 1) & (t[at + 1] == key.destination as u64)
-    } else {
-        false
-    }
+    t[at + 2] == key.spi as u64
+        && (t[at] == key.protocol as u64 + 1) & (t[at + 1] == key.destination as u64)
 }
 
-// The room of the key, 64 where it has none.
-fn find(t: &Table, key: Key) -> usize
-    ensures { result ≡ find t.now key }
+// The room of the key.
+fn find(t: &Table, key: Key) -> Option<usize>
+    ensures place { unwrap_or result rooms ≡ find t.now key }
+    ensures within { IfSome result (λ room. room < rooms) }
 {
-    let mut room = 0;
-    while room < ROOMS {
+    for room in 0..ROOMS {
         if holds(t, key, room) {
-            return room;
+            return Some(room);
         }
-        room += 1;
     }
-    room
+    None
 }
 
-// The first free room, 64 where there is none.
-fn free(t: &Table) -> usize
-    ensures { result ≡ free t.now }
+// The first free room.
+fn free(t: &Table) -> Option<usize>
+    ensures place { unwrap_or result rooms ≡ free t.now }
+    ensures within { IfSome result (λ room. room < rooms) }
 {
-    let mut room = 0;
-    while room < ROOMS {
+    for room in 0..ROOMS {
         if t[room * WORDS] == 0 {
-            return room;
+            return Some(room);
         }
-        room += 1;
     }
-    room
+    None
 }
 
 fn entry_at(t: &Table, room: usize) -> Entry
@@ -96,15 +79,6 @@ fn entry_at(t: &Table, room: usize) -> Entry
             window: t[at + 4],
         },
         counter: t[at + 5],
-    }
-}
-
-fn with_receive(e: Entry, receive: Receive) -> Entry
-    ensures { result ≡ with_receive e receive }
-{
-    Entry {
-        receive,
-        counter: e.counter,
     }
 }
 
@@ -129,22 +103,19 @@ fn put_key(t: &mut Table, room: usize, key: Key)
 }
 
 // Begins a life of the key.
-pub fn add(t: &mut Table, key: Key) -> Outcome
-    ensures { added t.old key ≡ (result, t.new) }
+pub fn add(t: &mut Table, key: Key) -> Result<(), Refusal>
+    ensures { added t.old key ≡ (outcome_told result, t.new) }
 {
     if !known(key.protocol) {
-        return Outcome::Refused(10);
+        return Err(Refusal::InvalidProtocolId);
     }
     if key.spi < 256 {
-        return Outcome::Refused(11);
+        return Err(Refusal::InvalidSpi);
     }
-    if find(t, key) < ROOMS {
-        return Outcome::Refused(8200);
+    if find(t, key).is_some() {
+        return Err(Refusal::EntryPresent);
     }
-    let room = free(t);
-    if ROOMS <= room {
-        return Outcome::Refused(8199);
-    }
+    let room = free(t).ok_or(Refusal::TableFull)?;
     put_key(t, room, key);
     put_entry(
         t,
@@ -154,77 +125,61 @@ pub fn add(t: &mut Table, key: Key) -> Outcome
             counter: 0,
         },
     );
-    Outcome::Done
+    Ok(())
 }
 
 // Ends the key's life.
-pub fn remove(t: &mut Table, key: Key) -> Outcome
-    ensures { removed t.old key ≡ (result, t.new) }
+pub fn remove(t: &mut Table, key: Key) -> Result<(), Refusal>
+    ensures { removed t.old key ≡ (outcome_told result, t.new) }
 {
-    let room = find(t, key);
-    if ROOMS <= room {
-        return Outcome::Refused(11);
-    }
+    let room = find(t, key).ok_or(Refusal::InvalidSpi)?;
     t[room * WORDS] = 0;
-    Outcome::Done
+    Ok(())
 }
 
 // A packet to a destination; integrity is what the caller says of it.
 pub fn packet(t: &mut Table, destination: u32, protocol: u8, integrity: bool, s: &[u8]) -> Verdict
-    ensures { packet t.old destination protocol integrity s.now ≡ (result, t.new) }
+    ensures { packet t.old destination protocol integrity s.now ≡ (verdict_told result, t.new) }
 {
-    let p = read(protocol, s);
-    match p {
-        Packet::Refused(number) => Verdict::Refused(number),
-        Packet::Read { spi, number } => {
-            let room = find(
-                t,
-                Key {
-                    destination,
-                    protocol,
-                    spi,
-                },
-            );
-            if ROOMS <= room {
-                return Verdict::Refused(11);
-            }
-            let e = entry_at(t, room);
-            let receive = e.receive;
-            let j = step(receive, number, integrity);
-            let after = j.receive;
-            put_entry(t, room, with_receive(e, after));
-            j.verdict
-        }
-    }
+    let Packet { spi, number } = read(protocol, s)?;
+    let packet_key = Key {
+        destination,
+        protocol,
+        spi,
+    };
+    let room = find(t, packet_key).ok_or(Refusal::InvalidSpi)?;
+    let entry = entry_at(t, room);
+    let Judged { receive, verdict } = step(entry.receive, number, integrity);
+    put_entry(t, room, Entry { receive, ..entry });
+    verdict
 }
 
 // The next number for a packet that the key's life sends.
-pub fn send(t: &mut Table, key: Key) -> Sending
-    ensures { next_to_send t.old key ≡ (result, t.new) }
+pub fn send(t: &mut Table, key: Key) -> Result<u32, Refusal>
+    ensures { next_to_send t.old key ≡ (sending_told result, t.new) }
 {
-    let room = find(t, key);
-    if ROOMS <= room {
-        return Sending::Refused(11);
-    }
-    let mut e = entry_at(t, room);
-    let last = e.counter;
+    let room = find(t, key).ok_or(Refusal::InvalidSpi)?;
+    let entry = entry_at(t, room);
+    let last = entry.counter;
     if 4294967295 <= last {
-        return Sending::Refused(8198);
+        return Err(Refusal::CounterAtEnd);
     }
-    e.counter = last + 1;
-    put_entry(t, room, e);
-    Sending::Number((last + 1) as u32)
+    let next = last + 1;
+    put_entry(
+        t,
+        room,
+        Entry {
+            counter: next,
+            ..entry
+        },
+    );
+    Ok(next as u32)
 }
 
 // The loss line of the key's life.
-pub fn loss(t: &Table, key: Key) -> Counted
-    ensures { result ≡ loss t.now key }
+pub fn loss(t: &Table, key: Key) -> Result<LossLine, Refusal>
+    ensures { counted_told result ≡ loss t.now key }
 {
-    let room = find(t, key);
-    if ROOMS <= room {
-        return Counted::Refused(11);
-    }
-    let e = entry_at(t, room);
-    let receive = e.receive;
-    Counted::Line(loss_line(receive))
+    let entry = entry_at(t, find(t, key).ok_or(Refusal::InvalidSpi)?);
+    Ok(loss_line(entry.receive))
 }

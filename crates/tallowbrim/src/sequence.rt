@@ -3,7 +3,7 @@ ghost use Rattle.exports_words.specs.Given.{given};
 ghost use Rattle.sequence_record.specs.Receive.{judged, loss_line};
 ghost use Rattle.sequence_plain.specs.Plain.{plain_step, plain_loss};
 ghost use Rattle.sequence_table.specs.Table.{added, removed, packet, next_to_send, loss, counted_answer};
-ghost use Rattle.sequence_table.specs.declared.table.Counted.TheVariants.{Line};
+ghost use Rattle.sequence_table.specs.Counted.{Line};
 ghost use Rattle.exports_sequence.specs.Records.{receive_of, stepped, plain_given, key_of, outcome_given, verdict_given, sending_given};
 
 use sequence_plain::PlainList;

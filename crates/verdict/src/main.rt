@@ -3,6 +3,7 @@
 
 use message_chain::{Message, Payload};
 use policy_choice::{Choice, Transforms};
+use refusal::Refusal;
 use std::io;
 use std::io::{Read, Write};
 use wire_read::{after, front};
@@ -18,15 +19,14 @@ fn main(rt: HostRuntime) -> io::Result<()> {
 
 fn verdict(s: &[u8], out: &mut impl Write) -> io::Result<()> {
     if !policy_book::book_in_front(s) {
-        return refused(out, 8193);
+        return refused(out, Refusal::BookUnlawful);
     }
     let size = policy_lines::book_size(s) as usize;
     let book = front(s, size);
     let m = after(s, size);
-    let read = message_chain::read(m);
-    match read {
-        Message::Refused(number) => refused(out, number),
-        Message::Read { exchange, count } => {
+    match message_chain::read(m) {
+        Err(refusal) => refused(out, refusal),
+        Ok(Message { exchange, count }) => {
             writeln!(out, "exchange {exchange} payloads {count}")?;
             payloads(out, m, count)?;
             choice(out, policy_choice::choose::choose(book, m))
@@ -49,14 +49,14 @@ fn payload(out: &mut impl Write, p: Payload) -> io::Result<()> {
     )
 }
 
-// The message reads, so that 16 says that it has no SA payload: then nothing is chosen, and nothing said.
-fn choice(out: &mut impl Write, c: Choice) -> io::Result<()> {
-    match c {
-        Choice::Refused(16) => Ok(()),
-        Choice::Refused(number) => refused(out, number),
-        Choice::Chosen(set, line, transforms) => {
-            write!(out, "chosen set {} line {}", set.0, line.0)?;
-            numbers(out, transforms)?;
+// The message reads, so that a malformed payload (16) says that it has no SA payload: then nothing is chosen, and nothing said.
+fn choice(out: &mut impl Write, chosen: Result<Choice, Refusal>) -> io::Result<()> {
+    match chosen {
+        Err(Refusal::PayloadMalformed) => Ok(()),
+        Err(refusal) => refused(out, refusal),
+        Ok(choice) => {
+            write!(out, "chosen set {} line {}", choice.set.0, choice.line.0)?;
+            numbers(out, choice.transforms)?;
             writeln!(out)
         }
     }
@@ -69,6 +69,6 @@ fn numbers(out: &mut impl Write, transforms: Transforms) -> io::Result<()> {
     }
 }
 
-fn refused(out: &mut impl Write, number: u16) -> io::Result<()> {
-    writeln!(out, "refused {number}")
+fn refused(out: &mut impl Write, refusal: Refusal) -> io::Result<()> {
+    writeln!(out, "refused {refusal}")
 }

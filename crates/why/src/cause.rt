@@ -4,14 +4,8 @@ use policy_cause::Cause;
 use std::io;
 use std::io::Write;
 
-pub(crate) fn cause(
-    out: &mut impl Write,
-    exchange: u8,
-    protocol: u8,
-    cause: Cause,
-) -> io::Result<()> {
+pub(crate) fn cause(out: &mut impl Write, exchange: u8, cause: Cause) -> io::Result<()> {
     match cause {
-        Cause::Suits => would_do(out, protocol),
         Cause::Id { found, wanted } => write!(out, ": ID {found}, wanted {wanted}"),
         Cause::Missing(attributetype) => missing(out, exchange, attributetype),
         Cause::Value {
@@ -29,7 +23,7 @@ pub(crate) fn cause(
 }
 
 // A set that fails though one of its transforms would do is of AH with ESP, and fails by the other protocol.
-fn would_do(out: &mut impl Write, protocol: u8) -> io::Result<()> {
+pub(crate) fn would_do(out: &mut impl Write, protocol: u8) -> io::Result<()> {
     let other = names::protocol(if protocol == 2 { 3 } else { 2 });
     write!(out, " would do, but none of {other} does")
 }

@@ -1,7 +1,5 @@
 // Names in English: of attributes, a row of Tables 6 and 7 of GB/T 36968-2018 a line, of modes and of protocols.
 use sa_items::{proposal, proposal_count};
-use std::io;
-use std::io::Write;
 
 // Table 6: attributes of main mode.
 pub(crate) fn main_attribute(attributetype: u16) -> &'static str {
@@ -68,7 +66,7 @@ pub(crate) fn protocols(number: u8) -> &'static str {
     }
 }
 
-// A set's protocols in quick mode, where it has each at most once.
+// A set's protocols in quick mode, where it has each at most once. ./lawful says it of main mode too, in a text of its own.
 pub(crate) fn protocols_of(set: &[u8]) -> &'static str {
     if proposal_count(set) != 1 {
         "AH with ESP"

@@ -1,6 +1,6 @@
 -- Bytes as they lie on the wire, as lists of numbers: what every other crate says of reading it says in these words.
 -- "All numbers on the wire are big-endian."
-use Rattle.std.specs.Prelude.{ℕ, zero, suc, ◌+◌, ◌*◌, List, [], ◌∷◌, Bool, true, false, ◌&&◌, get_or, eqb}
+use Rattle.std.specs.Prelude.{ℕ, zero, suc, ◌+◌, ◌*◌, ◌<◌, ◌≡◌, List, [], ◌∷◌, Bool, true, false, ◌&&◌, get_or, eqb}
 
 abbrev pub Bytes : Type 0
 Bytes = List ℕ
@@ -13,6 +13,10 @@ Code = ℕ
 unfoldable pub number_at : (n : ℕ) (s : Bytes) (i : ℕ) → ℕ
 number_at zero s i = 0
 number_at (suc n) s i = number_at n s i * 256 + get_or s (i + n) 0
+
+-- these are the n bytes at i
+abbrev pub BytesAt : (n : ℕ) (s : Bytes) (i : ℕ) (bytes : Bytes) → Type 0
+BytesAt n s i bytes = (k : ℕ) → k < n → get_or bytes k 0 ≡ get_or s (i + k) 0
 
 -- payloads, proposals and transforms begin alike: next (1 byte), reserved (1), length (2)
 abbrev pub next_field : (s : Bytes) → ℕ

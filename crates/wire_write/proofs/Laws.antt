@@ -135,27 +135,27 @@ paste_inside l i xs h =
     let at : length (take i l) ≡ i = length-take-le i l (omega arith) in
     rw (paste-fits l i xs h, drop_at (take i l) (xs ++ drop (i + length xs) l) i at) (take_at xs (drop (i + length xs) l) (length xs) refl)
 
-pub get_d_paste : (l : List ℕ) (i : ℕ) (xs : List ℕ) (k : ℕ) → i + length xs ≤ length l → k < length xs → get_or (paste l i xs) (i + k) 0 ≡ get_or xs k 0
-get_d_paste l i xs k h g =
+pub get_or-paste : (l : List ℕ) (i : ℕ) (xs : List ℕ) (k : ℕ) → i + length xs ≤ length l → k < length xs → get_or (paste l i xs) (i + k) 0 ≡ get_or xs k 0
+get_or-paste l i xs k h g =
     sym (get_or-drop i (paste l i xs) k 0) ∙ sym (get_or-take (length xs) (drop i (paste l i xs)) k 0 g) ∙ ap (λ (s : List ℕ). get_or s k 0) (paste_inside l i xs h)
 
-pub get_d_paste-other : (l : List ℕ) (i : ℕ) (xs : List ℕ) (k : ℕ) → (k < i) ⊎ (i + length xs ≤ k) → get_or (paste l i xs) k 0 ≡ get_or l k 0
+pub get_or-paste-other : (l : List ℕ) (i : ℕ) (xs : List ℕ) (k : ℕ) → (k < i) ⊎ (i + length xs ≤ k) → get_or (paste l i xs) k 0 ≡ get_or l k 0
 unfolding paste
-get_d_paste-other l i [] k h = refl
-get_d_paste-other l i (x ∷ xs) k h =
-    get_d_paste-other (set l i x) (i + 1) xs k (⊎_elim (λ w. inl (omega arith)) (λ w. inr (omega arith)) h)
+get_or-paste-other l i [] k h = refl
+get_or-paste-other l i (x ∷ xs) k h =
+    get_or-paste-other (set l i x) (i + 1) xs k (⊎_elim (λ w. inl (omega arith)) (λ w. inr (omega arith)) h)
     ∙ get_or-set_other l i k x 0 (⊎_elim (λ w e. omega arith) (λ w e. omega arith) h)
 
 -- a written number reads back, and one beside what is written stays
 pub number-written : (n x : ℕ) (l : List ℕ) (i : ℕ) → x < 256 ^ n → i + n ≤ length l → number_at n (paste l i (bytes_of n x)) i ≡ x
 number-written n x l i h g =
     number_agree n (paste l i (bytes_of n x)) (bytes_of n x) i 0
-    (λ k b. rw zero-add (get_d_paste l i (bytes_of n x) k (omega (arith, length_bytes_of n x)) (omega (arith, length_bytes_of n x))))
+    (λ k b. rw zero-add (get_or-paste l i (bytes_of n x) k (omega (arith, length_bytes_of n x)) (omega (arith, length_bytes_of n x))))
     ∙ number-bytes_of n x h
 
 pub number-kept : (n : ℕ) (l : List ℕ) (i : ℕ) (xs : List ℕ) (j : ℕ) → (j + n ≤ i) ⊎ (i + length xs ≤ j) → number_at n (paste l i xs) j ≡ number_at n l j
 number-kept n l i xs j h =
-    number_agree n (paste l i xs) l j j (λ k b. get_d_paste-other l i xs (j + k) (⊎_elim (λ w. inl (omega arith)) (λ w. inr (omega arith)) h))
+    number_agree n (paste l i xs) l j j (λ k b. get_or-paste-other l i xs (j + k) (⊎_elim (λ w. inl (omega arith)) (λ w. inr (omega arith)) h))
 
 -- ---- writing one run beside another
 

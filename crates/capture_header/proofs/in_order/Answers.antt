@@ -4,5 +4,5 @@ use Rattle.capture_header.proofs.in_order.Goals as goal
 pub returns-then-number16-number32 : goal.returns-then-number16-number32
 returns-then-number16-number32 c = search in_order_read
 
-pub returns-else-number16-number32 : goal.returns-else-number16-number32
-returns-else-number16-number32 c = search in_order_refused
+pub returns : goal.returns
+returns c = search in_order_refused

@@ -1,14 +1,14 @@
 use Rattle.capture_record.proofs.Ways.{keepalive-listed, exchange-listed, esp-listed, datagram-refused}
 use Rattle.capture_record.proofs.datagram_listed.Goals as goal
 
-pub returns-in-Keepalive : goal.returns-in-Keepalive
-returns-in-Keepalive c = search keepalive-listed
+pub returns-in-Ok-Keepalive : goal.returns-in-Ok-Keepalive
+returns-in-Ok-Keepalive c = search keepalive-listed
 
-pub returns-in-KeyExchange : goal.returns-in-KeyExchange
-returns-in-KeyExchange c = search exchange-listed
+pub returns-in-Ok-KeyExchange : goal.returns-in-Ok-KeyExchange
+returns-in-Ok-KeyExchange c = search exchange-listed
 
-pub returns-in-Esp : goal.returns-in-Esp
-returns-in-Esp c = search esp-listed
+pub returns-in-Ok-Esp : goal.returns-in-Ok-Esp
+returns-in-Ok-Esp c = search esp-listed
 
-pub returns-in-Refused : goal.returns-in-Refused
-returns-in-Refused c = search datagram-refused
+pub returns-in-Err : goal.returns-in-Err
+returns-in-Err c = search datagram-refused

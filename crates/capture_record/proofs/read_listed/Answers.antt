@@ -1,8 +1,10 @@
-use Rattle.capture_record.proofs.Ways.{refused-listed, read-listed}
+use Rattle.capture_record.specs.Listing.{read_listed}
 use Rattle.capture_record.proofs.read_listed.Goals as goal
 
-pub returns-in-Refused : goal.returns-in-Refused
-returns-in-Refused c = search refused-listed
+pub returns-in-Err : goal.returns-in-Err
+unfolding read_listed
+returns-in-Err c = cc
 
-pub returns-in-Read : goal.returns-in-Read
-returns-in-Read c = search read-listed
+pub returns-in-Ok : goal.returns-in-Ok
+unfolding read_listed
+returns-in-Ok c = cc

@@ -1,11 +1,13 @@
+use Rattle.std.proofs.Common.{ap}
+use Rattle.bench_words.specs.Say.{refused_text}
 use Rattle.capture_words.specs.Texts.{choice_text}
 use Rattle.capture_words.proofs.Ways.{choice-said}
 use Rattle.capture_words.proofs.choice.Goals as goal
 
-pub returns-in-Refused : goal.returns-in-Refused
+pub returns-in-Err : goal.returns-in-Err
 unfolding choice_text
-returns-in-Refused c = search choice-said
+returns-in-Err c = let same = ap refused_text c.number.ensures in search choice-said
 
-pub returns-in-Chosen : goal.returns-in-Chosen
+pub returns-in-Ok : goal.returns-in-Ok
 unfolding choice_text
-returns-in-Chosen c = search choice-said
+returns-in-Ok c = search choice-said

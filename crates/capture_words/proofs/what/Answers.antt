@@ -1,4 +1,5 @@
-use Rattle.capture_words.specs.Texts.{what_text}
+use Rattle.std.proofs.Common.{ap}
+use Rattle.capture_words.specs.Texts.{message_refused_text, what_text}
 use Rattle.capture_words.proofs.Ways.{what-said}
 use Rattle.capture_words.proofs.what.Goals as goal
 
@@ -36,7 +37,7 @@ returns-in-Read c = search what-said
 
 pub returns-in-Refused : goal.returns-in-Refused
 unfolding what_text
-returns-in-Refused c = search what-said
+returns-in-Refused c = let same = ap (message_refused_text c.in-Refused.addresses) c.number.ensures in search what-said
 
 pub returns-in-ShortPacket : goal.returns-in-ShortPacket
 unfolding what_text

@@ -1,7 +1,5 @@
-use Prim.Native.Nat.{◌+◌, ◌≤◌}
-use native.Mathlib.Omega.{arith}
-use lib.ListN.{length}
-use Rattle.der.proofs.Ways.{element_deep, element_wrong, element-plain, element-filled, element_unfilled, list-end, list-stop, list_on, list-within}
+use mathlib.Core.Path.{refl}
+use Rattle.der.proofs.Ways.{element_deep, element_wrong, element-plain, element-filled, element_unfilled, list-end, list-stop, list_on, list-shorter}
 use Rattle.der.proofs.+element_list.Goals as goal
 
 pub element-returns-then-levels-eq0 : goal.element-returns-then-levels-eq0
@@ -22,18 +20,14 @@ element-returns-else-constructed t c = search element-plain
 pub list-returns-then-n-eq0 : goal.list-returns-then-n-eq0
 list-returns-then-n-eq0 t c = search list-stop
 
-pub list-overflow_add-at : goal.list-overflow_add-at
-list-overflow_add-at t c =
-    let within : c.loop-at.at + c.element-n.result ≤ length c.args.s.now = search list-within in
-    omega arith
+pub list-loop-rest-init : goal.list-loop-rest-init
+list-loop-rest-init t c = refl
 
-pub list-loop-at-smaller : goal.list-loop-at-smaller
-list-loop-at-smaller t c =
-    let within : c.loop-at.at + c.element-n.result ≤ length c.args.s.now = search list-within in
-    omega arith
+pub list-loop-rest-smaller : goal.list-loop-rest-smaller
+list-loop-rest-smaller t c = search list-shorter
 
-pub list-loop-at-preserved : goal.list-loop-at-preserved
-list-loop-at-preserved t c = (search list-within, search list_on)
+pub list-loop-rest-preserved : goal.list-loop-rest-preserved
+list-loop-rest-preserved t c = search list_on
 
 pub list-returns : goal.list-returns
 list-returns t c = search list-end

@@ -1,11 +1,11 @@
 use Rattle.exports_words.specs.Given.{words}
 use Rattle.capture_header.specs.Headers.{header_cause_answer}
-use Rattle.exports_capture.proofs.Ways.{cause_form}
+use Rattle.exports_capture.proofs.Ways.{cause_form, cause_none}
 use Rattle.exports_capture.proofs.cause_words.Goals as goal
 
-pub returns-in-Nothing : goal.returns-in-Nothing
+pub returns-in_default : goal.returns-in_default
 unfolding words header_cause_answer
-returns-in-Nothing c = search cause_form
+returns-in_default c = search cause_none
 
 pub returns-in-Short : goal.returns-in-Short
 unfolding words header_cause_answer

@@ -1,11 +1,10 @@
 use Rattle.exports_words.specs.Given.{words}
 use Rattle.policy_lawful.specs.Lawful.{difference_values}
-use Rattle.exports_lawful.proofs.Ways.{difference_form}
+use Rattle.exports_lawful.proofs.Ways.{nothing_form, difference_form}
 use Rattle.exports_lawful.proofs.difference_words.Goals as goal
 
-pub returns-in-Nothing : goal.returns-in-Nothing
-unfolding words difference_values
-returns-in-Nothing c = search difference_form
+pub returns-in_default : goal.returns-in_default
+returns-in_default c = nothing_form _ c.in_default.not-Some
 
 pub returns-in-OfferRefused : goal.returns-in-OfferRefused
 unfolding words difference_values

@@ -1,10 +1,10 @@
 use Prim.Native.Nat.{ℕ}
-use mathlib.Core.Path.{◌≡◌}
+use mathlib.Core.Path.{◌≡◌, refl}
 use mathlib.Core.List.{List, [], ◌∷◌}
 use Rattle.exports_words.specs.Given.{given, left, words}
 use Rattle.policy_book.specs.Book.{book_answer}
-use Rattle.policy_book.specs.declared.Book.{Book}
-use Rattle.policy_book.specs.declared.Book.TheVariants.{Refused, Lawful}
+use Rattle.policy_book.specs.Book.{Book}
+use Rattle.policy_book.specs.Book.{Refused, Lawful}
 use Rattle.exports_policy.proofs.tallowbrim_book.Goals as goal
 
 module _ (answer said : Book) (same : answer ≡ said) (out : List ℕ) where
@@ -16,8 +16,8 @@ module _ (answer said : Book) (same : answer ≡ said) (out : List ℕ) where
   unfolding given left words book_answer
   given-lawful main quick is = rw (← same, is)
 
-pub returns-in-Refused : goal.returns-in-Refused
-returns-in-Refused c = search given-refused
+pub returns-in-Err : goal.returns-in-Err
+returns-in-Err c = rw c.from.ensures (given-refused _ _ c.in-Err.ensures _ _ refl)
 
-pub returns-in-Lawful : goal.returns-in-Lawful
-returns-in-Lawful c = search given-lawful
+pub returns-in-Ok : goal.returns-in-Ok
+returns-in-Ok c = given-lawful _ _ c.in-Ok.ensures _ _ _ refl

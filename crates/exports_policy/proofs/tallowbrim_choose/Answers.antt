@@ -1,11 +1,11 @@
 use Prim.Native.Nat.{ℕ}
-use mathlib.Core.Path.{◌≡◌}
+use mathlib.Core.Path.{◌≡◌, refl}
 use mathlib.Core.List.{List, [], ◌∷◌}
 use Rattle.sa_fields.specs.declared.ProposalNumber.{ProposalNumber}
 use Rattle.sa_fields.specs.declared.TransformNumber.{TransformNumber}
 use Rattle.policy_lines.specs.declared.LineNumber.{LineNumber}
-use Rattle.policy_choice.specs.declared.Choice.{Choice}
-use Rattle.policy_choice.specs.declared.Choice.TheVariants.{Refused, Chosen}
+use Rattle.policy_choice.specs.Choice.{Choice}
+use Rattle.policy_choice.specs.Choice.{Refused, Chosen}
 use Rattle.policy_choice.specs.declared.Transforms.{Transforms}
 use Rattle.policy_choice.specs.declared.Transforms.TheVariants.{One, Two}
 use Rattle.exports_words.specs.Given.{given, left, words}
@@ -27,11 +27,11 @@ module _ (answer said : Choice) (same : answer ≡ said) (out : List ℕ) where
     unfolding given left words chosen_answer
     given-two t u two = rw (← same, is, two)
 
-pub returns-in-Refused : goal.returns-in-Refused
-returns-in-Refused c = search given-refused
+pub returns-in-Err : goal.returns-in-Err
+returns-in-Err c = rw c.from.ensures (given-refused _ _ c.in-Err.ensures _ _ refl)
 
 pub returns-in-One : goal.returns-in-One
-returns-in-One c = search given-one
+returns-in-One c = given-one _ _ c.in-Ok.ensures _ _ _ _ refl _ c.in-One.is
 
 pub returns-in-Two : goal.returns-in-Two
-returns-in-Two c = search given-two
+returns-in-Two c = given-two _ _ c.in-Ok.ensures _ _ _ _ refl _ _ c.in-Two.is

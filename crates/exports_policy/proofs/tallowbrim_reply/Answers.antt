@@ -1,9 +1,9 @@
 use Prim.Native.Nat.{ℕ}
-use mathlib.Core.Path.{◌≡◌}
+use mathlib.Core.Path.{◌≡◌, refl}
 use mathlib.Core.List.{List, [], ◌∷◌}
 use Rattle.policy_reply.specs.Reply.{reply_answer}
-use Rattle.policy_reply.specs.declared.Outcome.{Outcome}
-use Rattle.policy_reply.specs.declared.Outcome.TheVariants.{Refused, Written}
+use Rattle.policy_reply.specs.Reply.{Outcome}
+use Rattle.policy_reply.specs.Reply.{Refused, Written}
 use Rattle.exports_words.specs.Given.{given, left, words}
 use Rattle.exports_policy.specs.Replies.{reply_given}
 use Rattle.exports_policy.proofs.tallowbrim_reply.Goals as goal
@@ -17,8 +17,8 @@ module _ (said : Outcome × List ℕ) (outcome : Outcome) (after : List ℕ) (sa
   unfolding reply_given given left words reply_answer
   given-written size is = rw (same, is)
 
-pub returns-in-Refused : goal.returns-in-Refused
-returns-in-Refused c = search given-refused
+pub returns-in-Err : goal.returns-in-Err
+returns-in-Err c = rw c.from.ensures (given-refused _ _ _ c.in-Err.ensures _ _ refl)
 
-pub returns-in-Written : goal.returns-in-Written
-returns-in-Written c = search given-written
+pub returns-in-Ok : goal.returns-in-Ok
+returns-in-Ok c = given-written _ _ _ c.in-Ok.ensures _ _ refl

@@ -1,10 +1,10 @@
 use Prim.Native.Nat.{ℕ}
-use mathlib.Core.Path.{◌≡◌}
+use mathlib.Core.Path.{◌≡◌, refl}
 use mathlib.Core.List.{List, [], ◌∷◌}
 use Rattle.exports_words.specs.Given.{given, left, words}
 use Rattle.message_chain.specs.Message.{message_answer}
-use Rattle.message_chain.specs.declared.Message.{Message}
-use Rattle.message_chain.specs.declared.Message.TheVariants.{Refused, Read}
+use Rattle.message_chain.specs.Message.{Message}
+use Rattle.message_chain.specs.Message.{Refused, Read}
 use Rattle.exports_reading.proofs.tallowbrim_message.Goals as goal
 
 module _ (answer said : Message) (same : answer ≡ said) (out : List ℕ) where
@@ -16,8 +16,8 @@ module _ (answer said : Message) (same : answer ≡ said) (out : List ℕ) where
   unfolding given left words message_answer
   given-read exchange count is = rw (← same, is)
 
-pub returns-in-Refused : goal.returns-in-Refused
-returns-in-Refused c = search given-refused
+pub returns-in-Err : goal.returns-in-Err
+returns-in-Err c = rw c.from.ensures (given-refused _ _ c.in-Err.ensures _ _ refl)
 
-pub returns-in-Read : goal.returns-in-Read
-returns-in-Read c = search given-read
+pub returns-in-Ok : goal.returns-in-Ok
+returns-in-Ok c = given-read _ _ c.in-Ok.ensures _ _ _ refl

@@ -1,11 +1,11 @@
 use Prim.Native.Nat.{ℕ, ◌≤◌, ◌<◌}
-use mathlib.Core.Path.{◌≡◌}
+use mathlib.Core.Path.{◌≡◌, refl}
 use mathlib.Core.List.{List, [], ◌∷◌}
 use borrow.Author.Tests.{le-leb, lt-leb}
 use Rattle.exports_words.specs.Given.{given, left, words}
 use Rattle.message_chain.specs.Message.{message, payload_at}
-use Rattle.message_chain.specs.declared.Message.{Message}
-use Rattle.message_chain.specs.declared.Message.TheVariants.{Refused, Read}
+use Rattle.message_chain.specs.Message.{Message}
+use Rattle.message_chain.specs.Message.{Refused, Read}
 use Rattle.message_chain.specs.declared.Payload.{Payload}
 use Rattle.exports_reading.specs.Payloads.{read_payload, payload_answer}
 use Rattle.exports_reading.proofs.tallowbrim_payload.Goals as goal
@@ -25,11 +25,12 @@ module _ (m : List ℕ) (place : ℕ) (answer : Message) (same : answer ≡ mess
     unfolding given left words payload_answer read_payload
     given-payload there p ep = rw (← same, is, lt-leb count place there, ← ep)
 
-pub returns-then-count-place : goal.returns-then-count-place
-returns-then-count-place c = search given_nothing
+pub returns-then-read-place : goal.returns-then-read-place
+returns-then-read-place c = given_nothing _ _ _ c.in-Ok.ensures _ _ _ refl c.if-read-place.true
 
-pub returns-in-Refused : goal.returns-in-Refused
-returns-in-Refused c = search given-refused
+pub returns-in-Err : goal.returns-in-Err
+returns-in-Err c = rw c.from.ensures (given-refused _ _ _ c.in-Err.ensures _ _ refl)
 
-pub returns-else-count-place : goal.returns-else-count-place
-returns-else-count-place c = search given-payload
+pub returns-else-read-place : goal.returns-else-read-place
+returns-else-read-place c =
+    given-payload _ _ _ c.in-Ok.ensures _ _ _ refl c.if-read-place.false _ c.payload_at-p.ensures

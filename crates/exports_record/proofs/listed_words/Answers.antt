@@ -37,7 +37,7 @@ returns-in-Read c = search listed_form
 
 pub returns-in-Refused : goal.returns-in-Refused
 unfolding words listed_answer
-returns-in-Refused c = search listed_form
+returns-in-Refused c = let told = rw c.number.ensures at c.addressed-in-Refused.ensures in search listed_form
 
 pub returns-in-ShortPacket : goal.returns-in-ShortPacket
 unfolding words listed_answer

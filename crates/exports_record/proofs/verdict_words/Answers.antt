@@ -1,8 +1,8 @@
 use Rattle.exports_record.proofs.Ways.{verdict-accepted, verdict-refused}
 use Rattle.exports_record.proofs.verdict_words.Goals as goal
 
-pub returns-in-Accepted : goal.returns-in-Accepted
-returns-in-Accepted c = search verdict-accepted
+pub returns-in-Ok : goal.returns-in-Ok
+returns-in-Ok c = search verdict-accepted
 
-pub returns-in-Refused : goal.returns-in-Refused
-returns-in-Refused c = search verdict-refused
+pub returns-in-Err : goal.returns-in-Err
+returns-in-Err c = search verdict-refused

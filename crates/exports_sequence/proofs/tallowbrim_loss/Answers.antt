@@ -1,8 +1,8 @@
 use Rattle.exports_sequence.proofs.Ways.{loss-line, loss-refused}
 use Rattle.exports_sequence.proofs.tallowbrim_loss.Goals as goal
 
-pub returns-in-Line : goal.returns-in-Line
-returns-in-Line c = search loss-line
+pub returns-in-Ok : goal.returns-in-Ok
+returns-in-Ok c = search loss-line
 
-pub returns-in-Refused : goal.returns-in-Refused
-returns-in-Refused c = search loss-refused
+pub returns-in-Err : goal.returns-in-Err
+returns-in-Err c = search loss-refused

@@ -1,8 +1,8 @@
 use Rattle.exports_sequence.proofs.Ways.{send_number, send_refused}
 use Rattle.exports_sequence.proofs.tallowbrim_send.Goals as goal
 
-pub returns-in-Number : goal.returns-in-Number
-returns-in-Number c = search send_number
+pub returns-in-Ok : goal.returns-in-Ok
+returns-in-Ok c = search send_number
 
-pub returns-in-Refused : goal.returns-in-Refused
-returns-in-Refused c = search send_refused
+pub returns-in-Err : goal.returns-in-Err
+returns-in-Err c = search send_refused

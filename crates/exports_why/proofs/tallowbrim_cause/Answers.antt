@@ -1,40 +1,30 @@
 use Prim.Native.Nat.{ℕ}
-use mathlib.Core.Path.{◌≡◌}
-use mathlib.Core.List.{List, [], ◌∷◌}
+use mathlib.Core.Path.{◌≡◌, refl}
+use mathlib.Core.List.{List}
+use Rattle.std.specs.Prelude.{Ok}
 use Rattle.exports_words.specs.Given.{given, left, words}
-use Rattle.policy_cause.specs.Causes.{cause_values}
-use Rattle.policy_cause.specs.declared.Cause.{Cause}
-use Rattle.policy_why.specs.Why.{why_answer}
-use Rattle.policy_why.specs.declared.Why.{Why}
-use Rattle.policy_why.specs.declared.Why.TheVariants.{Refused, NoSuchPlace, Protocols, Transform}
+use Rattle.policy_why.specs.Why.{Why, Refused, why_told, why_answer}
+use Rattle.policy_why.specs.declared.Why.{Why as Said}
+use Rattle.policy_why.specs.declared.Why.TheVariants as said
 use Rattle.exports_why.proofs.tallowbrim_cause.Goals as goal
 
-module _ (answer said : Why) (same : answer ≡ said) (out : List ℕ) where
-  given-refused : (number : ℕ) → answer ≡ Refused number → given 5 (why_answer said) out ≡ (number, out)
+module _ (told : Why) (out : List ℕ) where
+  given-refused : (number n : ℕ) → Refused number ≡ told → n ≡ number → given 5 (why_answer told) out ≡ (n, out)
   unfolding given left why_answer
-  given-refused number is = rw (← same, is)
+  given-refused number n same is = rw (← same, is)
 
-  given-no-place : answer ≡ NoSuchPlace → given 5 (why_answer said) out ≡ (0, 1 ∷ 0 ∷ 0 ∷ 0 ∷ 0 ∷ [])
-  unfolding given left words why_answer
-  given-no-place is = rw (← same, is)
+said-done : (said : Said) (out : List ℕ) → given 5 (why_answer (why_told (Ok said))) out ≡ (0, words 5 (why_answer (why_told (Ok said))).values)
+unfolding given left why_answer
+said-done said.NoSuchPlace out = refl
+said-done said.Protocols out = refl
+said-done (said.Transform cause) out = refl
 
-  given-protocols : answer ≡ Protocols → given 5 (why_answer said) out ≡ (0, 2 ∷ 0 ∷ 0 ∷ 0 ∷ 0 ∷ [])
-  unfolding given left words why_answer
-  given-protocols is = rw (← same, is)
+given-said : (said : Said) (told : Why) → why_told (Ok said) ≡ told → (r out : List ℕ) → r ≡ words 5 (why_answer (why_told (Ok said))).values →
+    given 5 (why_answer told) out ≡ (0, r)
+given-said said told same r out er = rw (← same, er) (said-done said out)
 
-  given-cause : (cause : Cause) → answer ≡ Transform cause → (r : List ℕ) → r ≡ words 5 (3 ∷ cause_values cause) →
-      given 5 (why_answer said) out ≡ (0, r)
-  unfolding given left why_answer
-  given-cause cause is r er = rw (← same, is, er)
+pub returns-in-Err : goal.returns-in-Err
+returns-in-Err c = let told = c.in-Err.ensures in search given-refused
 
-pub returns-in-Refused : goal.returns-in-Refused
-returns-in-Refused c = search given-refused
-
-pub returns-in-NoSuchPlace : goal.returns-in-NoSuchPlace
-returns-in-NoSuchPlace c = search given-no-place
-
-pub returns-in-Protocols : goal.returns-in-Protocols
-returns-in-Protocols c = search given-protocols
-
-pub returns-in-Transform : goal.returns-in-Transform
-returns-in-Transform c = search given-cause
+pub returns-in-Ok : goal.returns-in-Ok
+returns-in-Ok c = given-said _ _ c.in-Ok.ensures _ _ c.why_words.ensures

@@ -6,8 +6,8 @@ use Rattle.wire_read.specs.Tests.{if◌then◌otherwise◌}
 use Rattle.message_chain.specs.Message.{message}
 use Rattle.policy_choice.specs.Choice.{sa_from}
 use Rattle.policy_why.specs.Why.{message_offer, is_place}
-use Rattle.policy_why.specs.declared.Offer.{Offer}
-use Rattle.policy_why.specs.declared.Offer.TheVariants.{Refused, Readable}
+use Rattle.policy_why.specs.Offer.{Offer}
+use Rattle.policy_why.specs.Offer.{Refused, Readable}
 use Rattle.policy_why.specs.declared.Places.{Places}
 use Rattle.exports_words.specs.Given.{given, left, words}
 use Rattle.exports_why.specs.Places.{found_values, place_values, offer_place, place_answer}
@@ -23,18 +23,18 @@ place-left : (body : List ℕ) (at : Places) (out : List ℕ) → left 4 (place_
 unfolding place_values found_values
 place-left body at out = some_left (not (is_place body at)) _ out
 
-module _ (m : List ℕ) (at : Places) (offer : Offer) (same : offer ≡ message_offer m (message m)) (out : List ℕ) where
-  given-refused : (number : ℕ) → offer ≡ Refused number → given 4 (place_answer m at) out ≡ (number, out)
+module _ (m : List ℕ) (at : Places) (out : List ℕ) where
+  given-refused : (number n : ℕ) → Refused number ≡ message_offer m (message m) → n ≡ number → given 4 (place_answer m at) out ≡ (n, out)
   unfolding given left place_answer offer_place
-  given-refused number is = rw (← same, is)
+  given-refused number n same is = rw (← same, is)
 
-  given-place : (exchange count : ℕ) → offer ≡ Readable exchange count → (body r : List ℕ) → body ≡ sa_from count 0 m →
+  given-place : (exchange count : ℕ) → Readable exchange count ≡ message_offer m (message m) → (body r : List ℕ) → body ≡ sa_from count 0 m →
       r ≡ words 4 (place_values body at) → given 4 (place_answer m at) out ≡ (0, r)
   unfolding given place_answer offer_place
-  given-place exchange count is body r eb er = rw (← same, is, ← eb, place-left, ← er)
+  given-place exchange count same body r eb er = rw (← same, ← eb, place-left, ← er)
 
-pub returns-in-Refused : goal.returns-in-Refused
-returns-in-Refused c = search given-refused
+pub returns-in-Err : goal.returns-in-Err
+returns-in-Err c = let told = c.in-Err.ensures in search given-refused
 
-pub returns-in-Readable : goal.returns-in-Readable
-returns-in-Readable c = search given-place
+pub returns-in-Ok : goal.returns-in-Ok
+returns-in-Ok c = let told = c.in-Ok.ensures in search given-place

@@ -3,8 +3,5 @@ use mathlib.Core.Path.{◌≡◌}
 use Prim.Native.Nat.{◌+◌, ◌-◌, ◌*◌, ◌≤◌}
 use Rattle.message_chain.proofs.payload_at.Given as goal
 
-abbrev pub invariant-loop-i : goal.invariant-loop-i
-invariant-loop-i l = (l.i ≤ l.k) × ((l.start ≤ 28 + 65535 * l.i) × (walk (l.k - l.i) l.payloadtype l.start l.m ≡ payload_at l.k l.m))
-
-abbrev pub decreases-loop-i : goal.decreases-loop-i
-decreases-loop-i l = l.k - l.i
+abbrev pub invariant-loop-passed : goal.invariant-loop-passed
+invariant-loop-passed l = (l.start ≤ 28 + 65535 * l._passed) × (walk (l.k - l._passed) l.payloadtype l.start l.m ≡ payload_at l.k l.m)

@@ -1,8 +1,8 @@
 use Rattle.policy_lawful.proofs.LawfulWays.{set_same, set_other}
 use Rattle.policy_lawful.proofs.other_set.Goals as goal
 
-pub returns-then-number-chosen : goal.returns-then-number-chosen
-returns-then-number-chosen c = search set_same
+pub returns-then-eq : goal.returns-then-eq
+returns-then-eq c = search set_same
 
 pub returns : goal.returns
 returns c = search set_other

@@ -1,10 +1,7 @@
 use mathlib.Core.Path.{◌≡◌}
-use lib.ListN.{drop}
+use Prim.Native.Nat.{◌-◌}
 use Rattle.policy_suits.specs.Suits.{find_duration}
 use Rattle.policy_suits.proofs.find_duration.Given as goal
 
-abbrev pub invariant-loop-left : goal.invariant-loop-left
-invariant-loop-left l = find_duration l.left l.lifetype l.unit (drop l.at l.s) ≡ find_duration l.most l.lifetype l.unit l.s
-
-abbrev pub decreases-loop-left : goal.decreases-loop-left
-decreases-loop-left l = l.left
+abbrev pub invariant-loop-passed : goal.invariant-loop-passed
+invariant-loop-passed l = find_duration (l.most - l._passed) l.lifetype l.unit l.rest ≡ find_duration l.most l.lifetype l.unit l.s

@@ -10,5 +10,5 @@ returns-then-s-lt4 c = search short
 pub returns-then-equal-2 : goal.returns-then-equal-2
 returns-then-equal-2 c = search key_exchange
 
-pub returns-else-equal-2 : goal.returns-else-equal-2
-returns-else-equal-2 c = search esp
+pub returns : goal.returns
+returns c = search esp

@@ -1,8 +1,11 @@
-use Rattle.quick_check.proofs.Ways.{read-refused, read_checked}
+use Rattle.refusal.proofs.Laws.{coded-handed_on}
+use Rattle.quick_check.specs.Checks.{read_code}
 use Rattle.quick_check.proofs.read_code.Goals as goal
 
-pub returns-in-Refused : goal.returns-in-Refused
-returns-in-Refused c = search read-refused
+pub returns-in_err-exchange : goal.returns-in_err-exchange
+unfolding read_code
+returns-in_err-exchange c = rw c.in_err-exchange.was (coded-handed_on c.from_residual.result _ c.from_residual.ensures.1)
 
-pub returns-in-Read : goal.returns-in-Read
-returns-in-Read c = search read_checked
+pub returns : goal.returns
+unfolding read_code
+returns c = rw c.in_ok-exchange.was c.quick_code.ensures

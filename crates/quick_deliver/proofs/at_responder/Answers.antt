@@ -1,4 +1,4 @@
-use Rattle.quick_deliver.proofs.Ways.{responder-nothing, responder-idle, responder_half, responder_open, responder-sent, responder-up}
+use Rattle.quick_deliver.proofs.Ways.{responder-nothing, responder-idle, responder_half, responder_open, responder-other}
 use Rattle.quick_deliver.proofs.at_responder.Goals as goal
 
 pub returns-then-alike-found : goal.returns-then-alike-found
@@ -14,7 +14,4 @@ pub returns-else-alike-found : goal.returns-else-alike-found
 returns-else-alike-found c = search responder_open
 
 pub returns-in-Sent : goal.returns-in-Sent
-returns-in-Sent c = search responder-sent
-
-pub returns-in-GivenUp : goal.returns-in-GivenUp
-returns-in-GivenUp c = search responder-up
+returns-in-Sent c = responder-other _ _ _ _ _ _ _ c.refuse-in-Sent.ensures c.in-Sent.is

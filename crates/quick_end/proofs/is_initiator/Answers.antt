@@ -1,10 +1,6 @@
-use Rattle.quick_end.specs.Fresh.{is_initiator}
+use Rattle.std.proofs.Common.{◌∙◌}
+use Rattle.quick_end.proofs.Ways.{initiator-same}
 use Rattle.quick_end.proofs.is_initiator.Goals as goal
 
-pub returns-in-Initiator : goal.returns-in-Initiator
-unfolding is_initiator
-returns-in-Initiator c = cc
-
-pub returns-in-Responder : goal.returns-in-Responder
-unfolding is_initiator
-returns-in-Responder c = cc
+pub returns : goal.returns
+returns c = c.eq.ensures ∙ initiator-same c.args.role

@@ -1,10 +1,10 @@
 use Rattle.quick_shape.specs.Shapes.{count_of}
 use Rattle.quick_shape.proofs.count_of.Goals as goal
 
-pub returns-in-Refused : goal.returns-in-Refused
+pub returns-in-Err : goal.returns-in-Err
 unfolding count_of
-returns-in-Refused c = cc
+returns-in-Err c = cc
 
-pub returns-in-Read : goal.returns-in-Read
+pub returns-in-Ok : goal.returns-in-Ok
 unfolding count_of
-returns-in-Read c = cc
+returns-in-Ok c = cc

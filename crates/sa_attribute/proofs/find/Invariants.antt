@@ -1,10 +1,10 @@
+use Prim.Native.Nat.{◌-◌}
 use mathlib.Core.Path.{◌≡◌}
-use lib.ListN.{drop}
 use Rattle.sa_attribute.specs.Attributes.{find}
 use Rattle.sa_attribute.proofs.find.Given as goal
 
-abbrev pub invariant-loop-left : goal.invariant-loop-left
-invariant-loop-left l = find l.left l.attributetype (drop l.at l.s) ≡ find l.most l.attributetype l.s
+abbrev pub invariant-loop : goal.invariant-loop
+invariant-loop l = find (l.most - l.counter) l.attributetype l.rest ≡ find l.most l.attributetype l.s
 
-abbrev pub decreases-loop-left : goal.decreases-loop-left
-decreases-loop-left l = l.left
+abbrev pub decreases-loop : goal.decreases-loop
+decreases-loop l = l.most - l.counter

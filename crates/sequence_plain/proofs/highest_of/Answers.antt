@@ -1,21 +1,15 @@
 use mathlib.Core.Path.{refl}
-use native.Mathlib.Omega.{arith}
 use Rattle.sequence_plain.specs.Plain.{first_numbers}
-use Rattle.sequence_plain.proofs.Ways.{higher, not_higher, all_seen}
+use Rattle.sequence_plain.proofs.Ways.{next_highest, all_seen}
 use Rattle.sequence_plain.proofs.highest_of.Goals as goal
 
-pub loop-seen-init : goal.loop-seen-init
+pub loop-number-init : goal.loop-number-init
 unfolding first_numbers
-loop-seen-init c = (omega arith, refl)
+loop-number-init c = refl
 
-pub loop-seen-preserved-then-highest-list : goal.loop-seen-preserved-then-highest-list
-unfolding first_numbers
-loop-seen-preserved-then-highest-list c = (omega arith, search higher)
-
-pub loop-seen-preserved : goal.loop-seen-preserved
-unfolding first_numbers
-loop-seen-preserved c = (omega arith, search not_higher)
+pub loop-number-preserved : goal.loop-number-preserved
+loop-number-preserved c =
+    next_highest _ _ c.numbers-number-items.ensures _ _ c.loop-number.invariant c.loop-number-test.true _ c.max-highest.ensures
 
 pub returns : goal.returns
-unfolding first_numbers
 returns c = search all_seen

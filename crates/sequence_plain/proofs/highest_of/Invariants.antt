@@ -1,11 +1,7 @@
 use mathlib.Core.Path.{◌≡◌}
-use Prim.Native.Nat.{◌≤◌, ◌-◌}
 use Rattle.sequence_history.specs.History.{highest}
 use Rattle.sequence_plain.specs.Plain.{first_numbers}
 use Rattle.sequence_plain.proofs.highest_of.Given as goal
 
-abbrev pub invariant-loop-seen : goal.invariant-loop-seen
-invariant-loop-seen l = (l.seen ≤ l.count) × (l.highest ≡ highest (first_numbers l.list l.seen))
-
-abbrev pub decreases-loop-seen : goal.decreases-loop-seen
-decreases-loop-seen l = l.count - l.seen
+abbrev pub invariant-loop-number : goal.invariant-loop-number
+invariant-loop-number l = l.highest ≡ highest (first_numbers l.list l.number-index)

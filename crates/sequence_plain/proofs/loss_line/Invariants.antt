@@ -1,10 +1,7 @@
 use mathlib.Core.Path.{◌≡◌}
-use Prim.Native.Nat.{◌≤◌, ◌-◌}
+use Prim.Native.Nat.{◌≤◌}
 use Rattle.sequence_plain.proofs.Ways.{counted}
 use Rattle.sequence_plain.proofs.loss_line.Given as goal
 
 abbrev pub invariant-loop-looked : goal.invariant-loop-looked
-invariant-loop-looked l = (l.looked ≤ l.span) × (l.count ≤ l.looked) × (l.count ≡ counted l.list l.looked)
-
-abbrev pub decreases-loop-looked : goal.decreases-loop-looked
-decreases-loop-looked l = l.span - l.looked
+invariant-loop-looked l = (l.count ≤ l.looked) × (l.count ≡ counted l.list l.looked)

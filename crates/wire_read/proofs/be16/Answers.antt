@@ -1,11 +1,6 @@
-use Rattle.wire_read.proofs.Ways.{none_read, one-read, two-read}
+use mathlib.Core.Path.{◌∙◌}
+use Rattle.wire_read.proofs.Ways.{two-spelled, same_number}
 use Rattle.wire_read.proofs.be16.Goals as goal
 
-pub returns-then-s-at : goal.returns-then-s-at
-returns-then-s-at c = search none_read
-
-pub returns-then-s-at-lt2 : goal.returns-then-s-at-lt2
-returns-then-s-at-lt2 c = search one-read
-
 pub returns : goal.returns
-returns c = search two-read
+returns c = c.from_be_bytes.ensures ∙ two-spelled c.bytes_at.result ∙ same_number 2 c.args.s.now c.args.at c.bytes_at.result c.bytes_at.ensures

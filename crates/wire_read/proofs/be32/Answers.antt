@@ -1,11 +1,6 @@
-use Rattle.wire_read.proofs.Ways.{none_read, half_read, four_read}
+use mathlib.Core.Path.{◌∙◌}
+use Rattle.wire_read.proofs.Ways.{four-spelled, same_number}
 use Rattle.wire_read.proofs.be32.Goals as goal
 
-pub returns-then-s-at : goal.returns-then-s-at
-returns-then-s-at c = search none_read
-
-pub returns-then-s-at-lt4 : goal.returns-then-s-at-lt4
-returns-then-s-at-lt4 c = search half_read
-
 pub returns : goal.returns
-returns c = search four_read
+returns c = c.from_be_bytes.ensures ∙ four-spelled c.bytes_at.result ∙ same_number 4 c.args.s.now c.args.at c.bytes_at.result c.bytes_at.ensures

@@ -1,5 +1,7 @@
-use Rattle.wire_write.proofs.Ways.{eight_written}
+use mathlib.Core.Path.{sym, ap, ◌∙◌}
+use Rattle.wire_write.specs.Put.{paste}
+use Rattle.wire_write.proofs.Laws.{eight_bytes_lem}
 use Rattle.wire_write.proofs.put_be64.Goals as goal
 
 pub returns : goal.returns
-returns c = search eight_written
+returns c = c.put_bytes.ensures ∙ ap (paste c.args.buffer.now c.args.at) (c.to_be_bytes.ensures ∙ sym (eight_bytes_lem c.args.wide))

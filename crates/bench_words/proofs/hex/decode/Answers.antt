@@ -1,7 +1,8 @@
-use mathlib.Core.Path.{refl}
+use mathlib.Core.Logic.{inl, inr}
+use mathlib.Core.Path.{◌≡◌, refl, ◌∙◌}
 use native.Mathlib.Omega.{arith}
-use lib.ListN.{length-set}
-use Rattle.bench_words.proofs.HexLaws.{going_start, going_on, going_within, decode_dash, decode_empty, decode_full, decode_high, decode_low, decode_end}
+use lib.ListN.{length, length-set}
+use Rattle.bench_words.proofs.HexLaws.{going_start, going_on, decode_dash, decode_empty, decode_lone, decode_full, decode_letter, decode_end}
 use Rattle.bench_words.proofs.hex.decode.Goals as goal
 
 pub returns-then-equal : goal.returns-then-equal
@@ -10,25 +11,43 @@ returns-then-equal c = search decode_dash
 pub returns-then-word-eq0 : goal.returns-then-word-eq0
 returns-then-word-eq0 c = search decode_empty
 
-pub loop-i-init : goal.loop-i-init
-loop-i-init c = (omega arith, refl, going_start _ _ _)
+pub loop-pair-init : goal.loop-pair-init
+loop-pair-init c =
+    let new = c.into_iter-pair-iterator.ensures.into_iter_gives in
+    let rest = c.chunks-pair-items.ensures.rest in
+    (rw new c.chunks-pair-items.ensures.size, refl, rw (new, rest) (going_start _ _ _))
+
+pub returns-in_default : goal.returns-in_default
+returns-in_default c =
+    let steps = c.in-Some.ensures.steps in
+    decode_lone _ _ _ _ _ c.equal.ensures c.if-equal.false _ _ c.loop-pair.invariant.2 _ _ steps.1.0 _ c.loop-pair.invariant.0 steps.1.1 steps.1.2
+    c.in_default.len_below
+
+pub returns-in_err-high : goal.returns-in_err-high
+returns-in_err-high c =
+    decode_letter _ _ _ _ _ c.equal.ensures c.if-equal.false _ _ c.loop-pair.invariant.2 _ _ c.in-Some.ensures.steps.1.0
+    c.in-len2.len_at_least c.in-len2.len_below _ c.from_residual.ensures (inl c.in_err-high.ensures)
+
+pub returns-in_err-low : goal.returns-in_err-low
+returns-in_err-low c =
+    decode_letter _ _ _ _ _ c.equal.ensures c.if-equal.false _ _ c.loop-pair.invariant.2 _ _ c.in-Some.ensures.steps.1.0
+    c.in-len2.len_at_least c.in-len2.len_below _ c.from_residual-in_err-low.ensures (inr c.in_err-low.ensures)
 
 pub returns-then-bytes-to : goal.returns-then-bytes-to
-returns-then-bytes-to c = search decode_full
+returns-then-bytes-to c =
+    decode_full _ _ _ _ _ c.equal.ensures c.if-equal.false _ _ c.loop-pair.invariant.2 _ _ c.in-Some.ensures.steps.1.0
+    c.in-len2.len_at_least c.in-len2.len_below c.if-bytes-to.true (omega arith)
 
-pub returns-then-high-gt15 : goal.returns-then-high-gt15
-returns-then-high-gt15 c = search decode_high
-
-pub returns-then-low-gt15 : goal.returns-then-low-gt15
-returns-then-low-gt15 c = search decode_low
-
-pub loop-i-preserved : goal.loop-i-preserved
-loop-i-preserved c = (
-  going_within _ _ _ _ _ _ c.loop-i.invariant.2 c.loop-i-test.true _ _ c.byte-in-loop-i.ensures c.value-low.ensures c.if-low-gt15.false,
-  simp length-set (omega arith),
-  going_on _ _ _ _ _ _ c.loop-i.invariant.2 c.loop-i-test.true _ _ c.byte-in-loop-i.ensures c.value-low.ensures _ _
-      c.byte.ensures c.value-high.ensures c.if-high-gt15.false c.if-low-gt15.false c.if-bytes-to.false,
-)
+pub loop-pair-preserved : goal.loop-pair-preserved
+loop-pair-preserved c =
+    let steps = c.in-Some.ensures.steps in
+    let two : length c.in-Some.pair.now ≡ 2 = omega arith in (
+      steps.0 ∙ c.loop-pair.invariant.0,
+      simp length-set (omega arith),
+      going_on _ _ _ _ _ _ c.loop-pair.invariant.2 _ _ steps.1.0 two _ _ c.in_ok-high.ensures c.in_ok-low.ensures c.if-bytes-to.false,
+    )
 
 pub returns : goal.returns
-returns c = search decode_end
+returns c =
+    let steps = c.in-None.ensures.steps in
+    decode_end _ _ _ _ _ c.equal.ensures c.if-equal.false _ _ c.loop-pair.invariant.2 steps.1.0 c.if-word-eq0.false (omega arith)

@@ -4,12 +4,11 @@ use borrow.Author.Rules.{rules}
 use Rattle.bench_words.proofs.SayLaws.{hex-start, hex-on, hex-end}
 use Rattle.bench_words.proofs.say.bytes.Goals as goal
 
-pub loop-i-init : goal.loop-i-init
-loop-i-init c = (omega arith, refl, hex-start _ _ (omega arith))
+pub loop-b-init : goal.loop-b-init
+loop-b-init c = (refl, hex-start _ _ (omega arith))
 
-pub loop-i-preserved : goal.loop-i-preserved
-loop-i-preserved c =
-    (omega arith, search rules, hex-on _ _ _ _ _ _ _ _ _ c.loop-i.invariant.2 c.loop-i-test.true c.byte.ensures c.hex_byte-said.ensures)
+pub loop-b-preserved : goal.loop-b-preserved
+loop-b-preserved c = (search rules, hex-on _ _ _ _ _ _ _ _ _ c.loop-b.invariant.1 (omega arith) refl c.hex_byte-said.ensures)
 
 pub returns : goal.returns
 returns c = search hex-end

@@ -1,8 +1,8 @@
 use Rattle.bench_words.proofs.SayLaws.{accepted-said, refused-said}
 use Rattle.bench_words.proofs.say.verdict.Goals as goal
 
-pub returns-in-Accepted : goal.returns-in-Accepted
-returns-in-Accepted c = search accepted-said
+pub returns-in-Ok : goal.returns-in-Ok
+returns-in-Ok c = search accepted-said
 
-pub returns-in-Refused : goal.returns-in-Refused
-returns-in-Refused c = search refused-said
+pub returns-in-Err : goal.returns-in-Err
+returns-in-Err c = search refused-said

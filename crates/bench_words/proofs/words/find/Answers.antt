@@ -1,18 +1,22 @@
+use Prim.Native.Nat.{◌+◌, ◌<◌}
+use lib.ListN.{length}
 use native.Mathlib.Omega.{arith}
-use borrow.Author.Count.{below_more}
-use borrow.Author.Rules.{rules}
+use Rattle.bench_words.proofs.WordLaws.{found_within, found_there, none_before, none_at_all}
 use Rattle.bench_words.proofs.words.find.Goals as goal
 
-pub returns-then-s-i : goal.returns-then-s-i
-returns-then-s-i c = record { within = omega arith; behind = omega arith; before = c.loop-i.invariant.1; found = λ _. c.if-s-i.true }
+pub returns-in-Some : goal.returns-in-Some
+returns-in-Some c =
+    let within : c.args.from + c.in-Some.n < length c.args.s.now = found_within _ _ _ _ c.after.ensures _ c.in-Some.ensures in record {
+      within = omega arith;
+      behind = omega arith;
+      before = none_before _ _ _ _ c.after.ensures _ c.in-Some.ensures;
+      found = λ _. found_there _ _ _ _ c.after.ensures _ c.in-Some.ensures;
+    }
 
-pub loop-i-preserved : goal.loop-i-preserved
-loop-i-preserved c = (search rules, below_more _ _ c.loop-i.invariant.1 (λ _. c.if-s-i.false))
-
-pub returns : goal.returns
-returns c = record {
+pub returns-in-None : goal.returns-in-None
+returns-in-None c = record {
   within = omega arith;
   behind = omega arith;
-  before = λ k l f. c.loop-i.invariant.1 k (omega arith) f;
+  before = none_at_all _ _ _ _ c.after.ensures c.in-None.ensures;
   found = λ h. absurd (omega arith);
 }

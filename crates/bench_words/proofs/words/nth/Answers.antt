@@ -4,11 +4,11 @@ use Rattle.bench_words.specs.Words.{word_of}
 use Rattle.bench_words.proofs.WordLaws.{nth_on, nth_end}
 use Rattle.bench_words.proofs.words.nth.Goals as goal
 
-pub loop-passed-init : goal.loop-passed-init
-loop-passed-init c = (omega arith, omega arith, ap (word_of _) (omega arith))
+pub loop-init : goal.loop-init
+loop-init c = (omega arith, ap (word_of _) (omega arith))
 
-pub loop-passed-preserved : goal.loop-passed-preserved
-loop-passed-preserved c = (omega arith, omega arith, search nth_on)
+pub loop-preserved : goal.loop-preserved
+loop-preserved c = (omega arith, search nth_on)
 
 pub returns : goal.returns
 returns c = search nth_end

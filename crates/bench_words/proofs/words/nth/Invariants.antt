@@ -1,12 +1,9 @@
--- Invariant: the word is as far on from at as it is from passed words on. at is at most one byte behind the line, since find stays within it.
+-- Invariant: the word is as far on from at as it is from so many words on. at is at most one byte behind the line, since find stays within it.
 use mathlib.Core.Path.{◌≡◌}
 use lib.ListN.{length, drop}
 use Prim.Native.Nat.{◌≤◌, ◌+◌, ◌-◌}
 use Rattle.bench_words.specs.Words.{word_of}
 use Rattle.bench_words.proofs.words.nth.Given as goal
 
-abbrev pub invariant-loop-passed : goal.invariant-loop-passed
-invariant-loop-passed l = (l.at ≤ length l.line + 1) × (l.passed ≤ l.k) × (word_of (drop l.at l.line) (l.k - l.passed) ≡ word_of l.line l.k)
-
-abbrev pub decreases-loop-passed : goal.decreases-loop-passed
-decreases-loop-passed l = l.k - l.passed
+abbrev pub invariant-loop : goal.invariant-loop
+invariant-loop l = (l.at ≤ length l.line + 1) × (word_of (drop l.at l.line) (l.k - l.counter) ≡ word_of l.line l.k)

@@ -4,5 +4,5 @@ use Rattle.policy_choice.proofs.choose.lowest_number.Goals as goal
 pub returns-in-None : goal.returns-in-None
 returns-in-None c = search number-none
 
-pub returns-in-Lowest : goal.returns-in-Lowest
-returns-in-Lowest c = search number-lowest
+pub returns-in-Some : goal.returns-in-Some
+returns-in-Some c = search number-lowest

@@ -1,10 +1,7 @@
 use Rattle.sequence_table.specs.Table.{rooms, is_free, first_place, free}
 use mathlib.Core.Path.{◌≡◌}
-use Prim.Native.Nat.{◌-◌, ◌≤◌}
+use Prim.Native.Nat.{◌-◌}
 use Rattle.sequence_table.proofs.table.free.Given as goal
 
 abbrev pub invariant-loop-room : goal.invariant-loop-room
-invariant-loop-room l = (l.room ≤ rooms) × (first_place (is_free l.t) (rooms - l.room) l.room ≡ free l.t)
-
-abbrev pub decreases-loop-room : goal.decreases-loop-room
-decreases-loop-room l = rooms - l.room
+invariant-loop-room l = first_place (is_free l.t) (rooms - l.room) l.room ≡ free l.t

@@ -1,0 +1,8 @@
+use Rattle.std.proofs.Common.{arith}
+use Rattle.std.proofs.lemmas.Grind.{common_steps}
+use Rattle.policy_cause.specs.Causes.{◌or_else◌, attributes_cause}
+use Rattle.policy_cause.proofs.Wish.attributes_cause.Goals as goal
+
+pub returns : goal.returns
+unfolding attributes_cause ◌or_else◌
+returns c = grind (arith, common_steps)

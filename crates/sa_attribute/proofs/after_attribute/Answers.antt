@@ -1,6 +1,0 @@
-use Rattle.sa_attribute.specs.Attributes.{after_attribute}
-use Rattle.sa_attribute.proofs.after_attribute.Goals as goal
-
-pub returns : goal.returns
-unfolding after_attribute
-returns c = cc

@@ -1,5 +1,0 @@
-use Rattle.sa_items.proofs.Ways.{item-first}
-use Rattle.sa_items.proofs.first_item.Goals as goal
-
-pub returns : goal.returns
-returns c = search item-first
