@@ -22,6 +22,10 @@ fn bytes_at<const N: usize>(s: &[u8], at: usize) -> [u8; N]
     if let Some(whole) = rest.first_chunk() {
         return *whole;
     }
+    // Of reads past the end most have nothing left, and a copy of nothing would be a call all the same.
+    if rest.is_empty() {
+        return [0; N];
+    }
     let mut bytes = [0; N];
     bytes[..rest.len()].copy_from_slice(rest);
     bytes

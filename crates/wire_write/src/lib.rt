@@ -11,7 +11,10 @@ pub fn put_bytes(buffer: &mut [u8], at: usize, bytes: &[u8])
 {
     let from = at.min(buffer.len());
     let n = bytes.len().min(buffer.len() - from);
-    buffer[from..from + n].copy_from_slice(&bytes[..n]);
+    // By no copy_from_slice, which is memmove: the archives for C need memcpy and memset from outside, and nothing else.
+    for i in 0..n {
+        buffer[from + i] = bytes[i];
+    }
 }
 
 // Writes a byte.
