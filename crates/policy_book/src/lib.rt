@@ -41,19 +41,21 @@ fn quick_line_lawful(i: u8, book: &[u8]) -> bool
 fn main_lines_lawful(n: u8, book: &[u8]) -> bool
     ensures { result ≡ main_lines_lawful n book.now }
 {
-    if n == 0 {
-        return true;
+    let mut lawful = true;
+    for i in 0..n {
+        lawful = lawful & main_line_lawful(i, book);
     }
-    main_lines_lawful(n - 1, book) & main_line_lawful(n - 1, book)
+    lawful
 }
 
 fn quick_lines_lawful(n: u8, book: &[u8]) -> bool
     ensures { result ≡ quick_lines_lawful n book.now }
 {
-    if n == 0 {
-        return true;
+    let mut lawful = true;
+    for i in 0..n {
+        lawful = lawful & quick_line_lawful(i, book);
     }
-    quick_lines_lawful(n - 1, book) & quick_line_lawful(n - 1, book)
+    lawful
 }
 
 // Whether a lawful book stands at the front.

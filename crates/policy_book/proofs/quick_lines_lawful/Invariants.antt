@@ -1,0 +1,6 @@
+use mathlib.Core.Path.{◌≡◌}
+use Rattle.policy_book.specs.Book.{quick_lines_lawful}
+use Rattle.policy_book.proofs.quick_lines_lawful.Given as goal
+
+abbrev pub invariant-loop-i : goal.invariant-loop-i
+invariant-loop-i l = l.lawful ≡ quick_lines_lawful l.i l.book
