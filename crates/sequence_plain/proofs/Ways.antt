@@ -6,12 +6,8 @@ use mathlib.Core.List.{List, ◌∷◌}
 use native.Mathlib.Omega.{arith}
 use lib.ListN.{length, get_or, set, take, drop}
 use Rattle.std.proofs.lemmas.List.{get_or-take, get_or-drop, length-drop, length-take}
-use Rattle.std.proofs.lemmas.List.Folds.{list_any_more}
-use Rattle.std.specs.List.{list_any}
 use lib.Dec.{eqb}
 use Rattle.wire_read.proofs.Tests.{by_test}
-use mathlib.Core.Path.{refl}
-use Prim.Native.Nat.{zero}
 use Rattle.std.proofs.Math.Bool.{or_comm}
 use borrow.Author.Tests.{eq-eqb, ne_eqb, eqb-true, eqb-false, le-leb, lt-leb}
 use Rattle.sequence_record.specs.Receive.{behind, verdict_answer}
@@ -37,23 +33,6 @@ module _ (list : PlainList) where
       let e : 1 + seen ≡ seen + 1 = omega arith in
       get_or-take count (drop 1 list) seen 0 l ∙ get_or-drop 1 list seen 0 ∙ ap (λ (k : ℕ). get_or list k 0) e
 
-  -- so many numbers of the list are looked through for one
-  pub seen_any : (number count : ℕ) → count < length list →
-      list_any (λ (x : ℕ). eqb x number) (take count (drop 1 list)) ≡ member number (first_numbers list count)
-  unfolding first_numbers
-  seen_any number zero l = refl
-  seen_any number (suc seen) l =
-      let e : suc seen ≡ seen + 1 = omega arith in
-      ap (λ (k : ℕ). list_any (λ (x : ℕ). eqb x number) (take k (drop 1 list))) e
-      ∙ list_any_more (λ (x : ℕ). eqb x number) (drop 1 list) seen 0 (omega (arith, length-drop 1 list))
-      ∙ ap₂ (λ (a b : Bool). a || b) (seen_any number seen (omega arith)) (last_same number seen)
-      ∙ or_comm (member number (first_numbers list seen)) (eqb number (get_or list (suc seen) 0))
-    where
-      last_same : (n k : ℕ) → eqb (get_or (drop 1 list) k 0) n ≡ eqb n (get_or list (suc k) 0)
-      last_same n k =
-          let e : 1 + k ≡ suc k = omega arith in
-          ap (λ (x : ℕ). eqb x n) (get_or-drop 1 list k 0 ∙ ap (λ (i : ℕ). get_or list i 0) e) ∙ eqb_sym (get_or list (suc k) 0) n
-
   module _ (numbers : List ℕ) (are : numbers ≡ take (count_of list) (drop 1 list)) where
     pub next_highest : (seen x : ℕ) → x ≡ highest (first_numbers list seen) → seen < length numbers →
         (y : ℕ) → y ≡ max x (get_or numbers seen 0) → y ≡ highest (first_numbers list (seen + 1))
@@ -61,6 +40,16 @@ module _ (list : PlainList) where
         let within : seen < count_of list = omega (arith, ap length are, length-take (count_of list) (drop 1 list)) in
         let last = ap (λ (s : List ℕ). get_or s seen 0) are ∙ seen_number (count_of list) seen within in
         is ∙ rw (first_next seen, ← so_far, last) (omega arith)
+
+    pub next_found : (number seen : ℕ) (found : Bool) → found ≡ member number (first_numbers list seen) → seen < length numbers →
+        (y : Bool) → y ≡ (found || eqb (get_or numbers seen 0) number) → y ≡ member number (first_numbers list (seen + 1))
+    next_found number seen found so_far l y is =
+        let within : seen < count_of list = omega (arith, ap length are, length-take (count_of list) (drop 1 list)) in
+        let last = ap (λ (s : List ℕ). get_or s seen 0) are ∙ seen_number (count_of list) seen within in
+        let same = ap (λ (x : ℕ). eqb x number) last ∙ eqb_sym (get_or list (seen + 1) 0) number in
+        is ∙ ap₂ (λ (a b : Bool). a || b) so_far same
+        ∙ or_comm (member number (first_numbers list seen)) (eqb number (get_or list (seen + 1) 0))
+        ∙ ap (member number) (sym (first_next seen))
 
     module _ (long : length list ≡ most + 1) where
       numbers-count : length numbers ≡ count_of list
@@ -70,8 +59,9 @@ module _ (list : PlainList) where
           x ≡ highest (numbers_of list)
       all_seen seen x so_far l g = let e : seen ≡ count_of list = omega (arith, numbers-count) in rw (← e) so_far
 
-      pub found-in : (number : ℕ) (found : Bool) → found ≡ list_any (λ (x : ℕ). eqb x number) numbers → found ≡ member number (numbers_of list)
-      found-in number found is = is ∙ ap (list_any (λ (x : ℕ). eqb x number)) are ∙ seen_any number (count_of list) (omega (arith, long))
+      pub all_searched : (number seen : ℕ) (found : Bool) → found ≡ member number (first_numbers list seen) → seen ≤ length numbers →
+          length numbers ≤ seen → found ≡ member number (numbers_of list)
+      all_searched number seen found so_far l g = let e : seen ≡ count_of list = omega (arith, numbers-count) in rw (← e) so_far
 
 -- ---- a step
 

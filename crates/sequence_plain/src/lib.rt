@@ -3,13 +3,13 @@
 #![tactic(auto)]
 
 ghost use Rattle.std.specs.Prelude.{◌≡◌, take, drop};
-ghost use Rattle.sequence_record.specs.Receive.{verdict_answer};
+ghost use Rattle.sequence_record.specs.Receive.{behind, verdict_answer};
 ghost use Rattle.sequence_record.specs.Verdict.{verdict_told};
 ghost use Rattle.sequence_history.specs.History.{highest, member};
 ghost use Rattle.sequence_plain.specs.Plain.{count_of, numbers_of, plain_step, plain_loss};
 
 use refusal::Refusal;
-use sequence_record::{LossLine, Verdict, behind};
+use sequence_record::{LossLine, Verdict};
 
 // How many numbers a list can have.
 pub const MOST: usize = 4096;
@@ -47,7 +47,19 @@ fn highest_of(list: &PlainList) -> u64
 fn is_in(list: &PlainList, number: u64) -> bool
     ensures { result ≡ member number (numbers_of list.now) }
 {
-    numbers(list).contains(&number)
+    // All are looked at: several at a time, as it is compiled. A search that ends at the first takes one after the other.
+    let mut found = false;
+    for &kept in numbers(list) {
+        found = found | (kept == number);
+    }
+    found
+}
+
+// The window's own `behind` is not called: a mistake in it would be one in both engines.
+fn behind(highest: u64, number: u32) -> bool
+    ensures { result ≡ behind highest number }
+{
+    (number == 0) | (number as u64 + 64 <= highest)
 }
 
 // What a packet with this number does to the list; integrity is what the caller says of it.
@@ -55,13 +67,15 @@ pub fn step(list: &mut PlainList, number: u32, integrity: bool) -> Verdict
     ensures { plain_step list.old number integrity ≡ (verdict_answer (verdict_told result), list.new) }
 {
     let highest = highest_of(list);
-    if behind(highest, number) {
+    let old = behind(highest, number);
+    let again = is_in(list, number as u64);
+    let count = count_of(list);
+    if old {
         return Err(Refusal::BehindWindow);
     }
-    if is_in(list, number as u64) {
+    if again {
         return Err(Refusal::AcceptedBefore);
     }
-    let count = count_of(list);
     if !integrity {
         return Err(Refusal::AuthenticationFailed);
     }

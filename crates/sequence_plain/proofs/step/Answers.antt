@@ -1,11 +1,11 @@
 use Rattle.sequence_plain.proofs.Ways.{step-behind, step_again, step_damaged, step-full, step-done}
 use Rattle.sequence_plain.proofs.step.Goals as goal
 
-pub returns-then-behind : goal.returns-then-behind
-returns-then-behind c = search step-behind
+pub returns-then-old : goal.returns-then-old
+returns-then-old c = search step-behind
 
-pub returns-then-is_in : goal.returns-then-is_in
-returns-then-is_in c = search step_again
+pub returns-then-again : goal.returns-then-again
+returns-then-again c = search step_again
 
 pub returns-then-not-integrity : goal.returns-then-not-integrity
 returns-then-not-integrity c = search step_damaged
