@@ -30,10 +30,10 @@ type Occurred = [bool; 8202];
 
 // What goes from record to record. Here is the next record's number and the byte where its header begins.
 #[derive(Drop)]
-struct Listing {
-    input: Input,
-    output: Output,
-    table: Table,
+struct Listing<'a> {
+    input: &'a mut Input,
+    output: &'a mut Output,
+    table: &'a mut Table,
     here: Place,
     advice: Advice,
     progress: Progress,
@@ -48,23 +48,27 @@ struct Place {
 // The status of a listing whose reader ends first is that of a program which the signal for that ends.
 const LEFT: u8 = 141;
 
+// Input and output are lent to the listing: put into it they would be copied, and lie on the stack twice.
 fn main(rt: HostRuntime) -> ExitCode {
     let terminal = rt.stderr().is_terminal();
+    let mut input = Input {
+        buffer: [0; 65536],
+        held: Held { from: 0, to: 0 },
+        ended: false,
+    };
+    let mut output = Output {
+        out: [0; 65536],
+        said: 0,
+        going: true,
+        left: false,
+        occurred: [false; 8202],
+    };
+    // The empty table.
+    let mut table = [0; ROOMS * WORDS];
     let mut listing = Listing {
-        input: Input {
-            buffer: [0; 65536],
-            held: Held { from: 0, to: 0 },
-            ended: false,
-        },
-        output: Output {
-            out: [0; 65536],
-            said: 0,
-            going: true,
-            left: false,
-            occurred: [false; 8202],
-        },
-        // The empty table.
-        table: [0; ROOMS * WORDS],
+        input: &mut input,
+        output: &mut output,
+        table: &mut table,
         here: Place { number: 1, at: 24 },
         advice: Advice {
             snap: false,
@@ -74,16 +78,16 @@ fn main(rt: HostRuntime) -> ExitCode {
         progress: progress::begun(&rt, terminal),
     };
     list(&rt, &mut listing);
-    if listing.output.left {
+    if output.left {
         return ExitCode::from(LEFT);
     }
-    told::refusals(&rt, &listing.output.occurred);
+    told::refusals(&rt, &output.occurred);
     ExitCode::SUCCESS
 }
 
 // Lists the whole file.
 fn list(rt: &impl Runtime, listing: &mut Listing) {
-    listing.input.hold(rt, &mut listing.output, 24);
+    listing.input.hold(rt, listing.output, 24);
     header(rt, listing);
     listing.output.flush(rt);
 }

@@ -10,7 +10,7 @@ use wire_read::front;
 
 // Lists the record at the front of what is left of the file; at its end there is none.
 pub(crate) fn next(rt: &impl Runtime, order: Order, book: &[u8], listing: &mut Listing) {
-    listing.input.hold(rt, &mut listing.output, 16);
+    listing.input.hold(rt, listing.output, 16);
     let left = listing.input.bytes();
     if !listing.output.going | (left.len() == 0) {
         listing.output.going = false;
@@ -19,8 +19,8 @@ pub(crate) fn next(rt: &impl Runtime, order: Order, book: &[u8], listing: &mut L
     let here = listing.here;
     match record_header(order, left) {
         Ok(None) => {
-            begin_line(here, &mut listing.output);
-            cut_short(rt, &mut listing.output);
+            begin_line(here, listing.output);
+            cut_short(rt, listing.output);
         }
         Err(refusal) => {
             listing.output.refused(rt, refusal);
@@ -33,10 +33,10 @@ pub(crate) fn next(rt: &impl Runtime, order: Order, book: &[u8], listing: &mut L
             listing.input.take(16);
             listing
                 .input
-                .hold(rt, &mut listing.output, header.captured as usize);
+                .hold(rt, listing.output, header.captured as usize);
             // A read that failed ends the listing without a line for the record that it broke off.
             if listing.output.going {
-                let output = &mut listing.output;
+                let output = &mut *listing.output;
                 begin_line(here, output);
                 output.said = stamp(
                     &mut output.out,
@@ -65,10 +65,10 @@ fn cut_short(rt: &impl Runtime, output: &mut Output) {
 fn bytes(rt: &impl Runtime, book: &[u8], captured: u16, original: u32, listing: &mut Listing) {
     let s = front(listing.input.bytes(), captured as usize);
     if s.len() < captured as usize {
-        return cut_short(rt, &mut listing.output);
+        return cut_short(rt, listing.output);
     }
-    let output = &mut listing.output;
-    let listed = list_record(&mut listing.table, original, s);
+    let output = &mut *listing.output;
+    let listed = list_record(listing.table, original, s);
     let m = handed_in(original, s);
     let refused = refusal(listed);
     if let Some(refusal) = refused {
