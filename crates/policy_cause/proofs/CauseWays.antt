@@ -25,6 +25,12 @@ use Rattle.policy_cause.specs.Causes.{◌or_else◌, first_cause, wish_of, main_
 
 -- ---- the first of two causes, and of a list
 
+-- any but none
+pub else_first : {Cause : Type 0} (first next : Option Cause) → (first ≡ None → ⊥) → first ≡ (first or_else next)
+unfolding ◌or_else◌
+else_first None next some = absurd (some refl)
+else_first (Some cause) next some = refl
+
 -- the next is asked only where there is no first
 or_none : {Cause : Type 0} (first next : Option Cause) → is_some first ≡ false → (first or_else next) ≡ next
 unfolding ◌or_else◌

@@ -44,6 +44,25 @@ use Rattle.policy_lawful.specs.Lawful.{◌or_else◌, offer_refused, book_refuse
 
 -- ---- the first of two differences
 
+-- any variant but `Nothing`
+pub else_first : (first next : Difference) → (first ≡ Nothing → ⊥) → first ≡ (first or_else next)
+unfolding ◌or_else◌
+else_first Nothing next some = absurd (some refl)
+else_first (OfferRefused number) next some = refl
+else_first (BookRefused number) next some = refl
+else_first (ReplyRefused number) next some = refl
+else_first (SeveralSets count) next some = refl
+else_first (SetNotOffered number) next some = refl
+else_first Protocols next some = refl
+else_first Order next some = refl
+else_first (SeveralTransforms protocol count) next some = refl
+else_first (TransformNotOffered protocol number) next some = refl
+else_first (Id protocol number found offered) next some = refl
+else_first (Attributes protocol number) next some = refl
+else_first (OtherSet found chosen) next some = refl
+else_first (OtherTransform protocol found chosen) next some = refl
+else_first NothingChosen next some = refl
+
 else_told : (found : Found) (next : Difference) → difference_told (Some found) ≡ (difference_told (Some found) or_else next)
 unfolding ◌or_else◌
 else_told (found.OfferRefused refusal) next = refl
@@ -310,6 +329,11 @@ module _ (booked : Bool) (book offer reply : List ℕ) where
       difference_told xy ≡ compared booked exchange book offer reply
   unfolding compared
   compared-all exchange x y xy ex ey exy = rw (exy, both_told x y, ex, ey)
+
+module _ (booked : Bool) (book offer reply : List ℕ) (found : Difference) (ef : found ≡ unread booked book offer reply) where
+  pub differs_unread : (found ≡ Nothing → ⊥) → found ≡ first_difference booked book offer reply
+  unfolding first_difference
+  differs_unread h = rw (← ef) (else_first found _ h)
 
 -- ---- the number of a refusal
 
