@@ -15,9 +15,7 @@ use Rattle.sa_fields.specs.declared.TransformNumber.{TransformNumber}
 use Rattle.policy_choice.specs.declared.Transforms.{Transforms}
 use Rattle.policy_choice.specs.declared.Transforms.TheVariants.{One, Two}
 use Rattle.std.specs.Prelude.{Result, Ok, Err}
-use Rattle.refusal.specs.Numbers.{number}
-use Rattle.refusal.specs.declared.Refusal.{Refusal}
-use Rattle.sequence_record.specs.Verdict.{verdict_told}
+use Rattle.sequence_record.specs.Verdict.{verdict_by}
 use Rattle.sequence_record.specs.declared.LossLine.{LossLine}
 use Rattle.bench_words.specs.Say.{Said, hex_digit_ascii, digits_text, decimal_text, number_text, hex_byte_text, hex_text, word_text, refused_text, verdict_text, loss_text, transforms_text}
 
@@ -121,19 +119,19 @@ module _ (l m : List ℕ) (at r : ℕ) (bytes : List ℕ) where
 -- ---- by cases
 
 module _ (l m : List ℕ) (at r : ℕ) where
-  pub refused-said : (told : Result ℕ Refusal) (refusal : Refusal) → told ≡ Err refusal → (n : ℕ) → n ≡ number refusal → Said l at (refused_text n) r m →
-      Said l at (verdict_text (verdict_told told)) r m
+  pub refused-said : {R : Type 0} (numbered : R → ℕ) (told : Result ℕ R) (refused : R) → told ≡ Err refused → (n : ℕ) → n ≡ numbered refused →
+      Said l at (refused_text n) r m → Said l at (verdict_text (verdict_by numbered told)) r m
   unfolding verdict_text
-  refused-said told refusal is n e p = rw (is, ← e) p
+  refused-said numbered told refused is n e p = rw (is, ← e) p
 
   pub one-said : (ts : Transforms) (t : TransformNumber) → ts ≡ One t → Said l at (number_text t.0) r m → Said l at (transforms_text ts) r m
   unfolding transforms_text
   one-said ts t e p = rw e p
 
-pub accepted-said : (l m n : List ℕ) (at r s : ℕ) (told : Result ℕ Refusal) (rise : ℕ) → told ≡ Ok rise →
-    Said l at (97 ∷ 99 ∷ 99 ∷ 101 ∷ 112 ∷ 116 ∷ 101 ∷ 100 ∷ []) r m → Said m r (number_text rise) s n → Said l at (verdict_text (verdict_told told)) s n
+pub accepted-said : {R : Type 0} (numbered : R → ℕ) (l m n : List ℕ) (at r s : ℕ) (told : Result ℕ R) (rise : ℕ) → told ≡ Ok rise →
+    Said l at (97 ∷ 99 ∷ 99 ∷ 101 ∷ 112 ∷ 116 ∷ 101 ∷ 100 ∷ []) r m → Said m r (number_text rise) s n → Said l at (verdict_text (verdict_by numbered told)) s n
 unfolding verdict_text
-accepted-said l m n at r s told rise e p q = rw e (said-on l m n at r s _ (number_text rise) p q)
+accepted-said numbered l m n at r s told rise e p q = rw e (said-on l m n at r s _ (number_text rise) p q)
 
 pub two_said : (l m n : List ℕ) (at r s : ℕ) (ts : Transforms) (t u : TransformNumber) → ts ≡ Two t u → Said l at (number_text t.0) r m →
     Said m r (number_text u.0) s n → Said l at (transforms_text ts) s n

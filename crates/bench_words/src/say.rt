@@ -1,9 +1,10 @@
 // Filling a buffer: each function puts something at a place and gives back the place behind it.
 ghost use Rattle.bench_words.specs.Say.{Said, decimal_text, number_text, hex_byte_text, hex_text, word_text, refused_text, bad_line_text, verdict_text, loss_text, transforms_text};
-ghost use Rattle.sequence_record.specs.Verdict.{verdict_told};
+ghost use Rattle.sequence_record.specs.Verdict.{verdict_by};
 
 use crate::hex::digit;
 use policy_choice::Transforms;
+use refusal::Numbered;
 use sequence_record::{LossLine, Verdict};
 use wire_write::put_bytes;
 
@@ -77,15 +78,15 @@ pub fn bad_line(out: &mut [u8], said: usize) -> usize
     append(out, said, b"bad line")
 }
 
-pub fn verdict(out: &mut [u8], said: usize, told: Verdict) -> usize
-    ensures { Said out.old said (verdict_text (verdict_told told)) result out.new }
+pub fn verdict<R: Numbered>(out: &mut [u8], said: usize, told: Verdict<R>) -> usize
+    ensures { Said out.old said (verdict_text (verdict_by R.numbered told)) result out.new }
 {
     match told {
         Ok(rise) => {
             let said = append(out, said, b"accepted");
             number(out, said, rise)
         }
-        Err(refusal) => refused(out, said, refusal.number()),
+        Err(refusal) => refused(out, said, refusal.numbered()),
     }
 }
 

@@ -18,7 +18,7 @@ verdict_of-told : (verdict : Result ℕ Refusal) → verdict_of (verdict_told ve
 verdict_of-told (Ok rise) = refl
 verdict_of-told (Err refusal) = ap Err (refusal_of-number refusal)
 
-abbrev listed_of : (told : Listed) → CodeListed
+abbrev listed_of : (told : Listed) → CodeListed Refusal
 listed_of Listings.CutShort = Code.CutShort
 listed_of Listings.NotIpv4 = Code.NotIpv4
 listed_of (Listings.Fragment addresses) = Code.Fragment addresses
@@ -31,7 +31,7 @@ listed_of (Listings.Refused addresses n) = Code.Refused addresses (refusal_of n)
 listed_of (Listings.ShortPacket addresses protocol verdict) = Code.ShortPacket addresses protocol (verdict_of verdict)
 listed_of (Listings.Packet addresses protocol spi number verdict) = Code.Packet addresses protocol spi number (verdict_of verdict)
 
-listed_of-told : (listed : CodeListed) → listed_of (listed_told listed) ≡ listed
+listed_of-told : (listed : CodeListed Refusal) → listed_of (listed_told listed) ≡ listed
 listed_of-told Code.CutShort = refl
 listed_of-told Code.NotIpv4 = refl
 listed_of-told (Code.Fragment addresses) = refl
@@ -44,5 +44,5 @@ listed_of-told (Code.Refused addresses refusal) = ap (Code.Refused addresses) (r
 listed_of-told (Code.ShortPacket addresses protocol verdict) = ap (Code.ShortPacket addresses protocol) (verdict_of-told verdict)
 listed_of-told (Code.Packet addresses protocol spi number verdict) = ap (Code.Packet addresses protocol spi number) (verdict_of-told verdict)
 
-pub listed_told-injective : (x y : CodeListed) → listed_told x ≡ listed_told y → x ≡ y
+pub listed_told-injective : (x y : CodeListed Refusal) → listed_told x ≡ listed_told y → x ≡ y
 listed_told-injective x y same = sym (listed_of-told x) ∙ ap listed_of same ∙ listed_of-told y

@@ -20,7 +20,7 @@ use sequence_table::table::{Key, Table};
 use wire_read::{after, be32, byte, front};
 
 #[derive(Clone, Copy)]
-pub enum Listed {
+pub enum Listed<R = Refusal> {
     CutShort,
     NotIpv4,
     Fragment(Addresses),
@@ -39,19 +39,19 @@ pub enum Listed {
         count: u8,
     },
     // A message, or a datagram of port 4500, that does not.
-    Refused(Addresses, Refusal),
+    Refused(Addresses, R),
     // An AH or ESP packet, protocol 2 or 3, too short for an SPI and a number.
     ShortPacket {
         addresses: Addresses,
         protocol: u8,
-        verdict: Verdict,
+        verdict: Verdict<R>,
     },
     Packet {
         addresses: Addresses,
         protocol: u8,
         spi: u32,
         number: u32,
-        verdict: Verdict,
+        verdict: Verdict<R>,
     },
 }
 

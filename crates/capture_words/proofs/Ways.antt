@@ -10,14 +10,13 @@ use Rattle.wire_read.specs.Wire.{Bytes}
 use Rattle.wire_write.specs.Put.{paste}
 use Rattle.message_chain.specs.declared.Payload.{Payload}
 use Rattle.message_chain.specs.Message.{payload_at}
-use Rattle.policy_choice.specs.Choice.{choice_told}
+use Rattle.policy_choice.specs.Choice.{choice_by}
 use Rattle.policy_choice.specs.declared.Choice.{Choice as Chosen}
-use Rattle.refusal.specs.declared.Refusal.{Refusal}
 use Rattle.std.specs.Prelude.{Result}
 use Rattle.sequence_record.specs.Verdict.{Verdict}
 use Rattle.capture_frame.specs.declared.Addresses.{Addresses}
 use Rattle.capture_record.specs.declared.Listed.{Listed as CodeListed}
-use Rattle.capture_record.specs.Listed.{listed_told}
+use Rattle.capture_record.specs.Listed.{listed_by}
 use Rattle.capture_record.specs.Listing.{ah_protocol}
 use Rattle.bench_words.specs.Say.{Said, hex_digit_ascii, decimal_text, number_text, verdict_text}
 use Rattle.bench_words.proofs.SayLaws.{said-on, said-both, said-text}
@@ -112,13 +111,14 @@ module _ (l m : Bytes) (at r : ℕ) where
   unfolding named_text
   esp-said addresses protocol h p = rw (ne_eqb protocol ah_protocol h) p
 
-  pub what-said : (listed is : CodeListed) (msg text : Bytes) → listed ≡ is → Said l at text r m → text ≡ what_text (listed_told is) msg →
-      Said l at (what_text (listed_told listed) msg) r m
-  what-said listed is msg text h p e = rw h (said-text l m at r text (what_text (listed_told is) msg) p e)
+  module _ {R : Type 0} (numbered : R → ℕ) where
+    pub what-said : (listed is : CodeListed R) (msg text : Bytes) → listed ≡ is → Said l at text r m → text ≡ what_text (listed_by numbered is) msg →
+        Said l at (what_text (listed_by numbered listed) msg) r m
+    what-said listed is msg text h p e = rw h (said-text l m at r text (what_text (listed_by numbered is) msg) p e)
 
-  pub choice-said : (choice is : Result Chosen Refusal) (text : Bytes) → choice ≡ is → Said l at text r m → text ≡ choice_text (choice_told is) →
-      Said l at (choice_text (choice_told choice)) r m
-  choice-said choice is text h p e = rw h (said-text l m at r text (choice_text (choice_told is)) p e)
+    pub choice-said : (choice is : Result Chosen R) (text : Bytes) → choice ≡ is → Said l at text r m → text ≡ choice_text (choice_by numbered is) →
+        Said l at (choice_text (choice_by numbered choice)) r m
+    choice-said choice is text h p e = rw h (said-text l m at r text (choice_text (choice_by numbered is)) p e)
 
 -- ---- payloads
 

@@ -5,9 +5,9 @@
 mod number;
 
 ghost use Rattle.bench_words.specs.Say.{Said};
-ghost use Rattle.sequence_record.specs.Verdict.{verdict_told};
-ghost use Rattle.policy_choice.specs.Choice.{choice_told};
-ghost use Rattle.capture_record.specs.Listed.{listed_told};
+ghost use Rattle.sequence_record.specs.Verdict.{verdict_by};
+ghost use Rattle.policy_choice.specs.Choice.{choice_by};
+ghost use Rattle.capture_record.specs.Listed.{listed_by};
 ghost use Rattle.capture_words.specs.Texts.{place_text, stamp_text, address_text, addresses_text, addressed_text, protocol_text, ports_text, enciphered_text, payload_text, payloads_text, read_text, message_refused_text, named_text, short_packet_text, spi_text, packet_text, what_text, set_text, chosen_text, choice_text};
 
 use crate::number::{counted, digits, hex_digits, marked, six_digits};
@@ -18,7 +18,7 @@ use capture_record::Listed;
 use message_chain::{Payload, payload_at};
 use policy_choice::{Choice, Transforms};
 use policy_lines::LineNumber;
-use refusal::Refusal;
+use refusal::Numbered;
 use sa_fields::ProposalNumber;
 use sequence_record::Verdict;
 
@@ -141,14 +141,14 @@ fn named(out: &mut [u8], said: usize, addresses: Addresses, protocol: u8) -> usi
     }
 }
 
-fn short_packet(
+fn short_packet<R: Numbered>(
     out: &mut [u8],
     said: usize,
     addresses: Addresses,
     protocol: u8,
-    verdict: Verdict,
+    verdict: Verdict<R>,
 ) -> usize
-    ensures { Said out.old said (short_packet_text addresses protocol (verdict_told verdict)) result out.new }
+    ensures { Said out.old said (short_packet_text addresses protocol (verdict_by R.numbered verdict)) result out.new }
 {
     let said = named(out, said, addresses, protocol);
     say::verdict(out, said, verdict)
@@ -161,16 +161,16 @@ fn spi_and_number(out: &mut [u8], said: usize, spi: u32, number: u32) -> usize
     counted(out, said, b" number", number as u64)
 }
 
-fn packet(
+fn packet<R: Numbered>(
     out: &mut [u8],
     said: usize,
     addresses: Addresses,
     protocol: u8,
     spi: u32,
     number: u32,
-    verdict: Verdict,
+    verdict: Verdict<R>,
 ) -> usize
-    ensures { Said out.old said (packet_text addresses protocol spi number (verdict_told verdict)) result out.new }
+    ensures { Said out.old said (packet_text addresses protocol spi number (verdict_by R.numbered verdict)) result out.new }
 {
     let said = named(out, said, addresses, protocol);
     let said = spi_and_number(out, said, spi, number);
@@ -179,8 +179,8 @@ fn packet(
 }
 
 // What a record is listed as; m is the message whose payloads are listed.
-pub fn what(out: &mut [u8], said: usize, listed: Listed, m: &[u8]) -> usize
-    ensures { Said out.old said (what_text (listed_told listed) m.now) result out.new }
+pub fn what<R: Numbered>(out: &mut [u8], said: usize, listed: Listed<R>, m: &[u8]) -> usize
+    ensures { Said out.old said (what_text (listed_by R.numbered listed) m.now) result out.new }
 {
     match listed {
         Listed::CutShort => append(out, said, b"cut short"),
@@ -205,7 +205,7 @@ pub fn what(out: &mut [u8], said: usize, listed: Listed, m: &[u8]) -> usize
             out,
             said,
             addresses,
-            refusal.number(),
+            refusal.numbered(),
         ),
         Listed::ShortPacket {
             addresses,
@@ -244,11 +244,11 @@ fn chosen(
 }
 
 // What a book chooses of a message: `chosen set S line L transforms T ..` or `refused N`.
-pub fn choice(out: &mut [u8], said: usize, choice: Result<Choice, Refusal>) -> usize
-    ensures { Said out.old said (choice_text (choice_told choice)) result out.new }
+pub fn choice<R: Numbered>(out: &mut [u8], said: usize, choice: Result<Choice, R>) -> usize
+    ensures { Said out.old said (choice_text (choice_by R.numbered choice)) result out.new }
 {
     match choice {
-        Err(refusal) => say::refused(out, said, refusal.number()),
+        Err(refusal) => say::refused(out, said, refusal.numbered()),
         Ok(
             Choice {
                 set,

@@ -55,7 +55,7 @@ module _ (verdict : Verdict) (v : List ℕ) (is : v ≡ words 2 (verdict_values 
 
 -- ---- what is listed
 
-pub listed_form : (listed form : CodeListed) → listed ≡ form → (ws : List ℕ) → ws ≡ words 8 (listed_answer (listed_told form)).values →
+pub listed_form : (listed form : CodeListed Refusal) → listed ≡ form → (ws : List ℕ) → ws ≡ words 8 (listed_answer (listed_told form)).values →
     ws ≡ words 8 (listed_answer (listed_told listed)).values
 listed_form listed form is ws are = rw (is, are)
 

@@ -16,9 +16,12 @@ pub data Message : Type 0 where
   Refused : (number : ℕ) → Message
   Read : (exchange count : ℕ) → Message
 
+abbrev pub message_by : {R : Type 0} (numbered : R → ℕ) (answer : Result Found R) → Message
+message_by numbered (Ok found) = Read found.exchange found.count
+message_by numbered (Err refused) = Refused (numbered refused)
+
 abbrev pub message_told : (answer : Result Found Refusal) → Message
-message_told (Ok found) = Read found.exchange found.count
-message_told (Err refusal) = Refused (number refusal)
+message_told answer = message_by number answer
 
 -- a message is refused, or its payloads are found
 pub data Reading : Type 0 where

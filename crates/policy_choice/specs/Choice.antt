@@ -30,9 +30,12 @@ pub data Choice : Type 0 where
   Refused : (number : ℕ) → Choice
   Chosen : (set : ProposalNumber) (line : LineNumber) (transforms : Transforms) → Choice
 
+abbrev pub choice_by : {R : Type 0} (numbered : R → ℕ) (answer : Result Found R) → Choice
+choice_by numbered (Ok found) = Chosen found.set found.line found.transforms
+choice_by numbered (Err refused) = Refused (numbered refused)
+
 abbrev pub choice_told : (answer : Result Found Refusal) → Choice
-choice_told (Ok found) = Chosen found.set found.line found.transforms
-choice_told (Err refusal) = Refused (number refusal)
+choice_told answer = choice_by number answer
 
 -- how many lines the book has for an exchange
 unfoldable pub line_count : (exchange : ℕ) (book : Bytes) → ℕ

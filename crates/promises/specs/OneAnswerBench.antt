@@ -3,6 +3,11 @@ use Rattle.std.specs.Prelude.{ℕ, min, ◌≤◌, ◌<◌, ◌≡◌, length, g
 use Rattle.std.proofs.Common.{sym, ap, ◌∙◌, arith, ltb-true, ltb-false}
 use Rattle.wire_read.specs.Wire.{Bytes}
 use Rattle.wire_read.proofs.Tests.{by_test}
+use denote.RattleType.{RattleType}
+use denote.Param.Laws.{Laws, IsCopy}
+use mir.Syntax.{Dict}
+use Rattle.std.specs.declared.clone.Clone.{Ghosts as CloneGhosts}
+use Rattle.refusal.specs.declared.Numbered.{Ghosts}
 use Rattle.promises.specs.OneAnswer.{OneAnswer, result, part, result_and_buffer}
 use Rattle.bench_words.proofs.words.find.Kinds as find-kinds
 use Rattle.bench_words.proofs.words.find.Reads as find-reads
@@ -98,11 +103,13 @@ bench_words-refused κs arguments x y s t p q = said_once _ _ _ _ _ _ p q
 pub bench_words-bad_line : OneAnswer 1 bad-line-kinds.ps bad-line-kinds.r result_and_buffer bad-line-reads.Post
 bench_words-bad_line κs arguments x y s t p q = said_once _ _ _ _ _ _ p q
 
-pub bench_words-verdict : OneAnswer 1 verdict-kinds.ps verdict-kinds.r result_and_buffer verdict-reads.Post
-bench_words-verdict κs arguments x y s t p q = said_once _ _ _ _ _ _ p q
-
 pub bench_words-loss_line : OneAnswer 1 loss-line-kinds.ps loss-line-kinds.r result_and_buffer loss-line-reads.Post
 bench_words-loss_line κs arguments x y s t p q = said_once _ _ _ _ _ _ p q
 
 pub bench_words-transforms : OneAnswer 1 transforms-kinds.ps transforms-kinds.r result_and_buffer transforms-reads.Post
 bench_words-transforms κs arguments x y s t p q = said_once _ _ _ _ _ _ p q
+
+-- of a function over a trait: whatever its refusals are
+module _ (R : RattleType) (laws : Laws R) (copy : IsCopy R) (ghosts : Ghosts R.Denot) (dict : Dict) (clone : CloneGhosts R.Denot) (clone-dict : Dict) where
+  pub bench_words-verdict : OneAnswer 2 (verdict-kinds.ps R laws copy) (verdict-kinds.r R laws copy) result_and_buffer (verdict-reads.Post R laws copy ghosts dict clone clone-dict)
+  bench_words-verdict κs arguments x y s t p q = said_once _ _ _ _ _ _ p q

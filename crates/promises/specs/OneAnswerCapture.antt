@@ -1,5 +1,10 @@
 -- No second answer, of the family capture (OneAnswer.antt says what that is).
 use Rattle.std.proofs.Common.{sym, ◌∙◌}
+use denote.RattleType.{RattleType}
+use denote.Param.Laws.{Laws, IsCopy}
+use mir.Syntax.{Dict}
+use Rattle.std.specs.declared.clone.Clone.{Ghosts as CloneGhosts}
+use Rattle.refusal.specs.declared.Numbered.{Ghosts}
 use Rattle.promises.specs.OneAnswer.{OneAnswer, result, part, result_and_buffer, result_and_second}
 use Rattle.promises.specs.OneAnswerBench.{said_once}
 use Rattle.capture_header.proofs.Laws.{file_header_told-injective, record_header_told-injective}
@@ -70,8 +75,10 @@ capture_words-place κs arguments x y s t p q = said_once _ _ _ _ _ _ p q
 pub capture_words-stamp : OneAnswer 1 stamp-kinds.ps stamp-kinds.r result_and_buffer stamp-reads.Post
 capture_words-stamp κs arguments x y s t p q = said_once _ _ _ _ _ _ p q
 
-pub capture_words-what : OneAnswer 2 what-kinds.ps what-kinds.r result_and_buffer what-reads.Post
-capture_words-what κs arguments x y s t p q = said_once _ _ _ _ _ _ p q
+-- of a function over a trait: whatever its refusals are
+module _ (R : RattleType) (laws : Laws R) (copy : IsCopy R) (ghosts : Ghosts R.Denot) (dict : Dict) (clone : CloneGhosts R.Denot) (clone-dict : Dict) where
+  pub capture_words-what : OneAnswer 3 (what-kinds.ps R laws copy) (what-kinds.r R laws copy) result_and_buffer (what-reads.Post R laws copy ghosts dict clone clone-dict)
+  capture_words-what κs arguments x y s t p q = said_once _ _ _ _ _ _ p q
 
-pub capture_words-choice : OneAnswer 1 choice-kinds.ps choice-kinds.r result_and_buffer choice-reads.Post
-capture_words-choice κs arguments x y s t p q = said_once _ _ _ _ _ _ p q
+  pub capture_words-choice : OneAnswer 2 (choice-kinds.ps R laws copy) (choice-kinds.r R laws copy) result_and_buffer (choice-reads.Post R laws copy ghosts dict clone clone-dict)
+  capture_words-choice κs arguments x y s t p q = said_once _ _ _ _ _ _ p q

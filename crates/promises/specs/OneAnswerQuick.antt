@@ -1,6 +1,11 @@
 -- No second answer, of the family quick (OneAnswer.antt says what that is).
-use Rattle.std.specs.Prelude.{ℕ, List}
+use Rattle.std.specs.Prelude.{ℕ, List, ◌≡◌}
 use Rattle.std.proofs.Common.{sym, ap, ◌∙◌}
+use denote.RattleType.{RattleType}
+use denote.Param.Laws.{Laws, IsCopy}
+use mir.Syntax.{Dict}
+use Rattle.std.specs.declared.clone.Clone.{Ghosts as CloneGhosts}
+use Rattle.refusal.specs.declared.Numbered.{Ghosts}
 use Rattle.promises.specs.OneAnswer.{OneAnswer, result, part, result_and_buffer}
 use Rattle.quick_end.proofs.is_idle.Kinds as is-idle-kinds
 use Rattle.quick_end.proofs.is_idle.Reads as is-idle-reads
@@ -54,7 +59,7 @@ use Rattle.quick_tick.proofs.tick.Kinds as tick-kinds
 use Rattle.quick_tick.proofs.tick.Reads as tick-reads
 use Rattle.quick_deliver.proofs.deliver.Kinds as deliver-kinds
 use Rattle.quick_deliver.proofs.deliver.Reads as deliver-reads
-use Rattle.refusal.proofs.Laws.{coded-injective}
+use Rattle.refusal.proofs.Laws.{coded-injective, coded_by-injective}
 use Rattle.quick_end.proofs.Told.{made_told-injective}
 use Rattle.quick_step.specs.Steps.{After}
 use Rattle.quick_step.specs.declared.Stepped.{Stepped}
@@ -80,9 +85,6 @@ quick_shape-is_longer κs arguments x y s t p q = p ∙ sym q
 
 pub quick_shape-alike : OneAnswer 2 alike-kinds.ps alike-kinds.r result alike-reads.Post
 quick_shape-alike κs arguments x y s t p q = p ∙ sym q
-
-pub quick_shape-count_of : OneAnswer 0 count-of-kinds.ps count-of-kinds.r result count-of-reads.Post
-quick_shape-count_of κs arguments x y s t p q = p ∙ sym q
 
 pub quick_shape-shape_of : OneAnswer 1 shape-of-kinds.ps shape-of-kinds.r result shape-of-reads.Post
 quick_shape-shape_of κs arguments x y s t p q = p ∙ sym q
@@ -110,9 +112,6 @@ quick_agreed-transforms_in κs arguments x y s t p q = p ∙ sym q
 
 pub quick_agreed-own_spis : OneAnswer 1 own-spis-kinds.ps own-spis-kinds.r result own-spis-reads.Post
 quick_agreed-own_spis κs arguments x y s t p q = p ∙ sym q
-
-pub quick_check-read_code : OneAnswer 1 read-code-kinds.ps read-code-kinds.r result read-code-reads.Post
-quick_check-read_code κs arguments x y s t p q = coded-injective _ _ (p ∙ sym q)
 
 pub quick_taken-taken_code : OneAnswer 2 taken-code-kinds.ps taken-code-kinds.r result taken-code-reads.Post
 quick_taken-taken_code κs arguments x y s t p q = coded-injective _ _ (p ∙ sym q)
@@ -150,3 +149,12 @@ pub quick_deliver-deliver :
 quick_deliver-deliver κs arguments x y s t p q =
     ap (λ (left : Stepped × (List ℕ × List ℕ × List ℕ)). (left.0, left.1.0, left.1.1, left.1.2))
     (step-same {A = List ℕ × List ℕ × List ℕ} x y _ _ (ap (λ (a : After). (step_of a.step, (a.sent, a.got, a.output))) (sym p ∙ q)))
+
+-- of a function over a trait: whatever its refusals are
+module _ (R : RattleType) (laws : Laws R) (copy : IsCopy R) (ghosts : Ghosts R.Denot) (dict : Dict) (clone : CloneGhosts R.Denot) (clone-dict : Dict) where
+  pub quick_shape-count_of : OneAnswer 1 (count-of-kinds.ps R laws copy) (count-of-kinds.r R laws copy) result (count-of-reads.Post R laws copy ghosts dict clone clone-dict)
+  quick_shape-count_of κs arguments x y s t p q = p ∙ sym q
+
+  -- where each number is that of one refusal
+  pub quick_check-read_code : ((r q : R.Denot) → ghosts.numbered r ≡ ghosts.numbered q → r ≡ q) → OneAnswer 2 (read-code-kinds.ps R laws copy) (read-code-kinds.r R laws copy) result (read-code-reads.Post R laws copy ghosts dict clone clone-dict)
+  quick_check-read_code one κs arguments x y s t p q = coded_by-injective ghosts.numbered one x y (p.0 ∙ sym q.0) (p.1 ∙ sym q.1)

@@ -1,15 +1,15 @@
 // What the ends ask of a message that is delivered, from its reading on. Every function takes any bytes.
 #![tactic(auto)]
 
-ghost use Rattle.std.specs.Prelude.{◌≡◌};
-ghost use Rattle.refusal.specs.Numbers.{coded};
-ghost use Rattle.message_chain.specs.Message.{message_told};
+ghost use Rattle.std.specs.Prelude.{◌≡◌, ◌&&◌, eqb, is_ok};
+ghost use Rattle.refusal.specs.Numbers.{coded, coded_by};
+ghost use Rattle.message_chain.specs.Message.{message_by};
 ghost use Rattle.quick_check.specs.Checks.{cookies_not_own, quick_code, read_code};
 
 use message_chain::Message;
 use quick_end::{Own, State, is_idle, is_initiator};
 use quick_shape::shape;
-use refusal::Refusal;
+use refusal::{Numbered, Refusal};
 use wire_read::{be32, be64, byte};
 
 fn cookies_not_own(own: Own, m: &[u8]) -> bool
@@ -54,16 +54,20 @@ fn quick_code(
     Ok(())
 }
 
-// The checks on a message from its reading on.
-pub fn read_code(
+// The checks on a message from its reading on. What refused the reading is handed on, whatever its number.
+pub fn read_code<R: Numbered>(
     own: Own,
     state: State,
     id: u32,
     m: &[u8],
-    read: Result<Message, Refusal>,
-) -> Result<(), Refusal>
-    ensures { coded result ≡ read_code own state id m.now (message_told read) }
+    read: Result<Message, R>,
+) -> Result<(), R>
+    ensures numbered { coded_by R.numbered result ≡ read_code own state id m.now (message_by R.numbered read) }
+    ensures passed { is_ok result ≡ (is_ok read && eqb (read_code own state id m.now (message_by R.numbered read)) 0) }
 {
     let Message { exchange, count } = read?;
-    quick_code(own, state, id, exchange, count, m)
+    match quick_code(own, state, id, exchange, count, m) {
+        Ok(()) => Ok(()),
+        Err(refusal) => Err(R::of(refusal)),
+    }
 }

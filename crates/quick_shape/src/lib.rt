@@ -2,13 +2,13 @@
 #![tactic(auto)]
 
 ghost use Rattle.std.specs.Prelude.{◌≡◌};
-ghost use Rattle.message_chain.specs.Message.{message_told};
+ghost use Rattle.message_chain.specs.Message.{message_by};
 ghost use Rattle.quick_shape.specs.Shapes.{type_is, shape, is_longer, alike, count_of, shape_of, nonce_in, nonce};
 
 use message_chain::{Message, payload_at};
 use policy_choice::choose::body_at;
 use quick_end::Role;
-use refusal::Refusal;
+use refusal::Numbered;
 use wire_read::{after, equal, front};
 
 fn type_is(k: u8, m: &[u8], payloadtype: u8) -> bool
@@ -44,8 +44,8 @@ pub fn alike(m: &[u8], n: &[u8]) -> bool
     (m.len() == n.len()) & equal(front(m, 32), front(n, 32)) & equal(after(m, 64), after(n, 64))
 }
 
-pub fn count_of(read: Result<Message, Refusal>) -> u8
-    ensures { result ≡ count_of (message_told read) }
+pub fn count_of<R: Numbered>(read: Result<Message, R>) -> u8
+    ensures { result ≡ count_of (message_by R.numbered read) }
 {
     match read {
         Ok(message) => message.count,

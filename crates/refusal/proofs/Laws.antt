@@ -1,9 +1,10 @@
 -- A refusal has its number for itself, and none has the number 0, so that an answer by number is that of one answer only.
 use Rattle.std.specs.Result.{IsErrAnd}
-use Rattle.std.specs.Prelude.{ℕ, ◌≡◌, refl, ◌≤◌, Result, Ok, Err, false, eqb}
+use Rattle.std.specs.Prelude.{ℕ, ◌≡◌, refl, ◌≤◌, Result, Ok, Err, is_ok, false, eqb}
 use Rattle.std.proofs.Common.{sym, ap, ◌∙◌, arith}
 use Rattle.wire_read.specs.Tests.{if◌then◌otherwise◌}
-use Rattle.refusal.specs.Numbers.{number, coded}
+use Rattle.wire_read.proofs.Tests.{clash}
+use Rattle.refusal.specs.Numbers.{number, coded, coded_by}
 use Rattle.refusal.specs.declared.Refusal.{Refusal}
 use Rattle.refusal.specs.declared.Refusal.TheVariants.{InvalidPayloadType, DoiNotSupported, SituationNotSupported, InvalidCookie, InvalidMajorVersion, InvalidMinorVersion, InvalidExchangeType, InvalidFlags, InvalidMessageId, InvalidProtocolId, InvalidSpi, AttributesNotSupported, NoProposalChosen, BadProposalSyntax, PayloadMalformed, InvalidIdInformation, InvalidCertEncoding, InvalidHashInformation, AuthenticationFailed, UnsupportedExchangeType, UnequalPayloadLengths, BufferTooSmall, BookUnlawful, AcceptedBefore, CallUnexpected, GivenUp, BehindWindow, CounterAtEnd, TableFull, EntryPresent, NoCapture, ListFull}
 
@@ -78,10 +79,18 @@ number-positive ListFull = omega arith
 pub number-refuses : (refusal : Refusal) → number refusal ≡ 0 → ⊥
 number-refuses refusal none = let positive = number-positive refusal in absurd (omega (arith, positive, none))
 
--- what a `?` hands on has the number of the refusal that it was given
+-- what a `?` hands on refuses, and has the number of what it was given
+module _ {A R : Type 0} (numbered : R → ℕ) where
+  pub coded_by-handed_on : (answer : Result A R) (given : R) → IsErrAnd answer (λ refused. refused ≡ given) → coded_by numbered answer ≡ numbered given
+  coded_by-handed_on (Ok passed) given same = absurd same
+  coded_by-handed_on (Err refused) given same = ap numbered same
+
+  pub handed_on-refused : (answer : Result A R) (given : R) → IsErrAnd answer (λ refused. refused ≡ given) → is_ok answer ≡ false
+  handed_on-refused (Ok passed) given same = absurd same
+  handed_on-refused (Err refused) given same = refl
+
 pub coded-handed_on : {A : Type 0} (answer : Result A Refusal) (given : Refusal) → IsErrAnd answer (λ refusal. refusal ≡ given) → coded answer ≡ number given
-coded-handed_on (Ok passed) given same = absurd same
-coded-handed_on (Err refusal) given same = ap number same
+coded-handed_on = coded_by-handed_on number
 
 -- the refusal that has a number
 abbrev pub refusal_of : (n : ℕ) → Refusal
@@ -162,3 +171,11 @@ coded-injective (Ok u) (Ok v) same = refl
 coded-injective (Ok u) (Err s) same = let positive = number-positive s in absurd (omega (arith, same, positive))
 coded-injective (Err r) (Ok v) same = let positive = number-positive r in absurd (omega (arith, same, positive))
 coded-injective (Err r) (Err s) same = ap Err (number-injective r s same)
+
+-- and so it has by any numbers of which each is that of one refusal, where it is known whether it lets pass
+pub coded_by-injective : {R : Type 0} (numbered : R → ℕ) → ((r s : R) → numbered r ≡ numbered s → r ≡ s) → (x y : Result Unit R) →
+    coded_by numbered x ≡ coded_by numbered y → is_ok x ≡ is_ok y → x ≡ y
+coded_by-injective numbered one (Ok u) (Ok v) same both = refl
+coded_by-injective numbered one (Ok u) (Err s) same both = clash (sym both)
+coded_by-injective numbered one (Err r) (Ok v) same both = clash both
+coded_by-injective numbered one (Err r) (Err s) same both = ap Err (one r s same)

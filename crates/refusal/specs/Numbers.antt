@@ -38,7 +38,10 @@ number EntryPresent = 8200
 number NoCapture = 8201
 number ListFull = 8202
 
--- the number of a check's answer: 0 where it lets pass, else the number of the refusal
+-- the number of a check's answer: 0 where it lets pass, else that of what refuses
+abbrev pub coded_by : {A R : Type 0} (numbered : R → ℕ) (checked : Result A R) → Code
+coded_by numbered (Ok passed) = 0
+coded_by numbered (Err refused) = numbered refused
+
 abbrev pub coded : {A : Type 0} (checked : Result A Refusal) → Code
-coded (Ok passed) = 0
-coded (Err refusal) = number refusal
+coded checked = coded_by number checked

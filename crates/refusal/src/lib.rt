@@ -2,8 +2,9 @@
 // names; those from 8192 on are the project's own.
 #![tactic(auto)]
 
-ghost use Rattle.std.specs.Prelude.{◌≡◌};
+ghost use Rattle.std.specs.Prelude.{ℕ, ◌≡◌, refl, Some, decimal};
 ghost use Rattle.refusal.specs.Numbers.{number};
+ghost use Rattle.refusal.specs.declared.Refusal.{Refusal};
 
 use std::error::Error;
 use std::fmt;
@@ -53,6 +54,53 @@ impl Refusal {
     }
 }
 
+// What a call can be refused by: a refusal, or any number where a caller has no more than that.
+pub trait Numbered: Copy {
+    ghost numbered: { Self → ℕ };
+
+    ghost of: { Refusal → Self };
+
+    fn numbered(self) -> u16
+        ensures { result ≡ numbered self };
+
+    fn of(refusal: Refusal) -> Self
+        ensures { result ≡ of refusal };
+
+    ghost same_number: { (refusal : Refusal) → numbered (of refusal) ≡ number refusal };
+}
+
+impl Numbered for Refusal {
+    ghost numbered = { number };
+
+    ghost of = { λ refusal. refusal };
+
+    ghost same_number = { λ refusal. refl };
+
+    fn numbered(self) -> u16 {
+        self.number()
+    }
+
+    fn of(refusal: Refusal) -> Refusal {
+        refusal
+    }
+}
+
+impl Numbered for u16 {
+    ghost numbered = { λ n. n };
+
+    ghost of = { number };
+
+    ghost same_number = { λ refusal. refl };
+
+    fn numbered(self) -> u16 {
+        self
+    }
+
+    fn of(refusal: Refusal) -> u16 {
+        refusal.number()
+    }
+}
+
 impl From<Refusal> for u32 {
     ghost from_gives = { λ refusal n. n ≡ number refusal };
 
@@ -63,6 +111,8 @@ impl From<Refusal> for u32 {
 
 // It is printed as its number.
 impl fmt::Display for Refusal {
+    ghost output = { λ refusal. Some (decimal (number refusal)) };
+
     fn fmt<W: fmt::Write>(&self, f: &mut fmt::Formatter<W>) -> fmt::Result {
         let number = *self as u16;
         write!(f, "{number}")

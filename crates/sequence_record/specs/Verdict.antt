@@ -15,9 +15,12 @@ pub record Judged : Type 0 where
   pub receive : Receive
   pub verdict : Verdict
 
+abbrev pub verdict_by : {R : Type 0} (numbered : R → ℕ) (answer : Result ℕ R) → Verdict
+verdict_by numbered (Ok rise) = Accepted rise
+verdict_by numbered (Err refused) = Refused (numbered refused)
+
 abbrev pub verdict_told : (answer : Result ℕ Refusal) → Verdict
-verdict_told (Ok rise) = Accepted rise
-verdict_told (Err refusal) = Refused (number refusal)
+verdict_told answer = verdict_by number answer
 
 abbrev pub judged_told : (j : CodeJudged) → Judged
 judged_told j = record { receive = j.receive; verdict = verdict_told j.verdict }

@@ -17,7 +17,7 @@ pub struct Receive {
 }
 
 // By how much the highest number rose, 0 where it did not; or why the number is refused.
-pub type Verdict = Result<u64, Refusal>;
+pub type Verdict<R = Refusal> = Result<u64, R>;
 
 // A step's verdict, and the record after it.
 #[derive(Clone, Copy, Debug, PartialEq, Eq)]

@@ -6,8 +6,8 @@ use Rattle.capture_words.proofs.choice.Goals as goal
 
 pub returns-in-Err : goal.returns-in-Err
 unfolding choice_text
-returns-in-Err c = let same = ap refused_text c.number.ensures in search choice-said
+returns-in-Err g c = let same = ap refused_text c.numbered.ensures in search choice-said
 
 pub returns-in-Ok : goal.returns-in-Ok
 unfolding choice_text
-returns-in-Ok c = search choice-said
+returns-in-Ok g c = search choice-said

@@ -2,4 +2,4 @@ use Rattle.bench_words.proofs.SayLaws.{said-both}
 use Rattle.capture_words.proofs.short_packet.Goals as goal
 
 pub returns : goal.returns
-returns c = search said-both
+returns g c = search said-both
