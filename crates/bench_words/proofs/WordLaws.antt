@@ -14,6 +14,7 @@ use Rattle.std.proofs.lemmas.List.Quantifiers.{position-Some}
 use Rattle.std.proofs.lemmas.List.Sums.{prefix_len_passes}
 use Rattle.std.proofs.lemmas.List.Recursion.{is_count_by}
 use Rattle.wire_read.proofs.Tests.{by_test, never}
+use Rattle.wire_read.proofs.Laws.{part-next}
 use Rattle.bench_words.specs.Words.{word_length, word_count, word_of}
 
 -- ---- the first such byte
@@ -74,6 +75,20 @@ unfolding word_count
 words_counted line n e =
     let spaces = is_count_by (λ s. word_count s - 1) (λ b. b == 32) refl word_step line in
     omega (arith, some_word line)
+
+-- words are counted from a place on: a space is one more
+module _ (line : List ℕ) (i n : ℕ) (so_far : n + word_count (drop i line) ≡ word_count line + 1) (more : i < length line) where
+  pub count_space : (m : ℕ) → m ≡ n + 1 → get_or line i 0 ≡ 32 → m + word_count (drop (i + 1) line) ≡ word_count line + 1
+  unfolding word_count
+  count_space m j h =
+      let e : word_count (drop i line) ≡ 1 + word_count (drop (i + 1) line) = rw (part-next line i more, eq-eqb (get_or line i 0) 32 h) in
+      omega arith
+
+  pub count-other : (m : ℕ) → m ≡ n → (get_or line i 0 ≡ 32 → ⊥) → m + word_count (drop (i + 1) line) ≡ word_count line + 1
+  unfolding word_count
+  count-other m j h =
+      let e : word_count (drop i line) ≡ word_count (drop (i + 1) line) = rw (part-next line i more, ne_eqb (get_or line i 0) 32 h) in
+      omega arith
 
 -- ---- which
 
