@@ -1,5 +1,10 @@
--- No second answer, of der, port4500 and identity (OneAnswer.antt says what that is).
+-- No second answer, of der, port4500, identity and refusal (OneAnswer.antt says what that is).
 use Rattle.std.proofs.Common.{sym, ◌∙◌}
+use denote.RattleType.{RattleType}
+use denote.Param.Laws.{Laws, IsCopy}
+use mir.Syntax.{Dict}
+use Rattle.std.specs.declared.clone.Clone.{Ghosts as CloneGhosts}
+use Rattle.refusal.specs.declared.Numbered.{Ghosts}
 use Rattle.refusal.proofs.Laws.{coded-injective}
 use Rattle.promises.specs.OneAnswer.{OneAnswer, result, part}
 use Rattle.der.proofs.is_element.Kinds as is-element-kinds
@@ -15,6 +20,10 @@ use Rattle.identity.proofs.identity_code.Kinds as identity-code-kinds
 use Rattle.identity.proofs.identity_code.Reads as identity-code-reads
 use Rattle.refusal.proofs.Refusal.number.Kinds as number-kinds
 use Rattle.refusal.proofs.Refusal.number.Reads as number-reads
+use Rattle.refusal.proofs.Numbered.numbered.Kinds as numbered-kinds
+use Rattle.refusal.proofs.Numbered.numbered.Reads as numbered-reads
+use Rattle.refusal.proofs.Numbered.of.Kinds as of-kinds
+use Rattle.refusal.proofs.Numbered.of.Reads as of-reads
 use Rattle.refusal.proofs.U32FromRefusal.from.Kinds as from-kinds
 use Rattle.refusal.proofs.U32FromRefusal.from.Reads as from-reads
 
@@ -38,3 +47,11 @@ refusal-number κs arguments x y s t p q = p ∙ sym q
 
 pub refusal-from : OneAnswer 0 from-kinds.ps from-kinds.r result from-reads.Post
 refusal-from κs arguments x y s t p q = p ∙ sym q
+
+-- of a trait: whatever implements it
+module _ (R : RattleType) (laws : Laws R) (copy : IsCopy R) (ghosts : Ghosts R.Denot) (dict : Dict) (clone : CloneGhosts R.Denot) (clone-dict : Dict) where
+  pub refusal-numbered : OneAnswer 1 (numbered-kinds.ps R laws copy) (numbered-kinds.r R laws copy) result (numbered-reads.Post R laws copy ghosts dict clone clone-dict)
+  refusal-numbered κs arguments x y s t p q = p ∙ sym q
+
+  pub refusal-of : OneAnswer 1 (of-kinds.ps R laws copy) (of-kinds.r R laws copy) result (of-reads.Post R laws copy ghosts dict clone clone-dict)
+  refusal-of κs arguments x y s t p q = p ∙ sym q
