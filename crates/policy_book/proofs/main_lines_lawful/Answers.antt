@@ -1,19 +1,16 @@
-use Prim.Native.Nat.{suc, ◌+◌}
-use mathlib.Core.Path.{◌≡◌, refl, ap₂}
-use mathlib.Core.Bool.{Bool, ◌&&◌}
+use Prim.Native.Nat.{◌+◌, ◌-◌}
+use mathlib.Core.Path.{◌≡◌, refl}
 use native.Mathlib.Omega.{arith}
-use Rattle.policy_book.specs.Book.{main_lines_lawful}
+use Rattle.policy_book.proofs.BookWays.{main-none, main-more}
 use Rattle.policy_book.proofs.main_lines_lawful.Goals as goal
 
 pub loop-i-init : goal.loop-i-init
-unfolding main_lines_lawful
-loop-i-init c = refl
+loop-i-init c = main-none 0 c.args.book.now refl
 
 pub loop-i-preserved : goal.loop-i-preserved
-unfolding main_lines_lawful
 loop-i-preserved c =
-    let next : c.loop-i.i + 1 ≡ suc c.loop-i.i = omega arith in
-    rw next (ap₂ (λ (a b : Bool). a && b) c.loop-i.invariant c.main_line_lawful-lawful.ensures)
+    let last : c.loop-i.i + 1 - 1 ≡ c.loop-i.i = omega arith in
+    main-more (c.loop-i.i + 1) c.args.book.now (λ none. omega (arith, none)) c.loop-i.lawful c.main_line_lawful-lawful.result (rw last c.loop-i.invariant) (rw last c.main_line_lawful-lawful.ensures)
 
 pub returns : goal.returns
 returns c =
