@@ -59,7 +59,9 @@ use Rattle.quick_tick.proofs.tick.Kinds as tick-kinds
 use Rattle.quick_tick.proofs.tick.Reads as tick-reads
 use Rattle.quick_deliver.proofs.deliver.Kinds as deliver-kinds
 use Rattle.quick_deliver.proofs.deliver.Reads as deliver-reads
-use Rattle.refusal.proofs.Laws.{coded-injective, coded_by-injective}
+use Rattle.refusal.specs.contracts.Refusal as refusal
+use Rattle.refusal.specs.Numbers.{number}
+use Rattle.refusal.proofs.Laws.{coded-injective, coded_by-injective, number-injective}
 use Rattle.quick_end.proofs.Told.{made_told-injective}
 use Rattle.quick_step.specs.Steps.{After}
 use Rattle.quick_step.specs.declared.Stepped.{Stepped}
@@ -156,5 +158,13 @@ module _ (R : RattleType) (laws : Laws R) (copy : IsCopy R) (ghosts : Ghosts R.D
   quick_shape-count_of κs arguments x y s t p q = p ∙ sym q
 
   -- where each number is that of one refusal
-  pub quick_check-read_code : ((r q : R.Denot) → ghosts.numbered r ≡ ghosts.numbered q → r ≡ q) → OneAnswer 2 (read-code-kinds.ps R laws copy) (read-code-kinds.r R laws copy) result (read-code-reads.Post R laws copy ghosts dict clone clone-dict)
-  quick_check-read_code one κs arguments x y s t p q = coded_by-injective ghosts.numbered one x y (p.0 ∙ sym q.0) (p.1 ∙ sym q.1)
+  pub quick_check-read_code_numbered : ((r q : R.Denot) → ghosts.numbered r ≡ ghosts.numbered q → r ≡ q) → OneAnswer 2 (read-code-kinds.ps R laws copy) (read-code-kinds.r R laws copy) result (read-code-reads.Post R laws copy ghosts dict clone clone-dict)
+  quick_check-read_code_numbered one κs arguments x y s t p q = coded_by-injective ghosts.numbered one x y (p.0 ∙ sym q.0) (p.1 ∙ sym q.1)
+
+-- a refusal has document 01's number, and that for itself: no premise is left
+abbrev by_number : Ghosts refusal.the_row.Denot
+by_number = record { numbered = number; of = λ refused. refused }
+
+module _ (laws : Laws refusal.the_row) (copy : IsCopy refusal.the_row) (dict : Dict) (clone : CloneGhosts refusal.the_row.Denot) (clone-dict : Dict) where
+  pub quick_check-read_code : OneAnswer 2 (read-code-kinds.ps refusal.the_row laws copy) (read-code-kinds.r refusal.the_row laws copy) result (read-code-reads.Post refusal.the_row laws copy by_number dict clone clone-dict)
+  quick_check-read_code = quick_check-read_code_numbered refusal.the_row laws copy by_number dict clone clone-dict number-injective
